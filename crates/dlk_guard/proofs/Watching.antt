@@ -148,7 +148,7 @@ sees_behind : (front more : List Line) (w : Watch) → Sees front w → Sees (fr
 sees_behind front [] w s = subst (λ ls. Sees ls w) (sym (append-nil front)) s
 sees_behind front (l ∷ more) w s =
     subst (λ ls. Sees ls (watched_all (watched w l) more)) (append_assoc front (l ∷ []) more)
-        (sees_behind (front ++ l ∷ []) more (watched w l) (sees_more front l w s))
+    (sees_behind (front ++ l ∷ []) more (watched w l) (sees_more front l w s))
 
 sees_all : (all : List Line) → Sees all (watch_of all)
 sees_all all = sees_behind [] all started sees_none

@@ -28,7 +28,7 @@ four_lines a b c number lines leaves word n = simp append_assoc
 pub summary_reply : (count lines leaves : ℕ) (p : Provable) (closed : Bool) (word text : List ℕ) → leaves ≡ length p.leaves → closed ≡ is_closed p.goals →
     word ≡ first_word closed →
     text ≡ codes "generated " ++ (decimal count
-        ++ (codes "\nlines " ++ (decimal lines ++ (codes "\nleaves " ++ (decimal leaves ++ (codes "\n" ++ (word ++ codes "\n"))))))) →
+    ++ (codes "\nlines " ++ (decimal lines ++ (codes "\nleaves " ++ (decimal leaves ++ (codes "\n" ++ (word ++ codes "\n"))))))) →
     printing Done text ≡ summed count p lines
 summary_reply count lines leaves p closed word text leaves_are closed_is word_is text_is =
     ap (printing Done)

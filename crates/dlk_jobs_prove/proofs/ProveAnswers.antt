@@ -68,11 +68,11 @@ module _ (model text : List ℕ) (f : Tree) (reads : ModelText model f) where
     pub done_answer : (made : Progress) (left : ℕ) → RunsModel t f (Done made left) → 1 ≤ length made.rows → (rows : List Row) (stands : Row → Provable) →
         made.rows ≡ map stands rows →
         (fact : ℕ) → fact ≡ length rows → (reply : Reply) → ((p : Provable) → At (map stands rows) fact p → Records made.steps p reply) →
-            Proves model text reply
+        Proves model text reply
     done_answer made left is_run some rows stands rows_are fact fact_is reply says_so =
         let end = last_of made.rows some in
         let whole : RunsTo model text (Done made left) = record { formula = f; reads = reads; tactic = t; says = says; run = is_run } in
         let count : length made.rows ≡ fact = ap length rows_are ∙ length-map rows stands ∙ sym fact_is in
         let there : At (map stands rows) fact end.1 =
-            subst (λ (l : List Provable). At l fact end.1) rows_are (subst (λ n. At made.rows n end.1) count (last_item made.rows end.0 end.1 end.2)) in
+        subst (λ (l : List Provable). At l fact end.1) rows_are (subst (λ n. At made.rows n end.1) count (last_item made.rows end.0 end.1 end.2)) in
         records made left whole end.1 (record { before = end.0; rows_are = end.2 }) reply (says_so end.1 there)

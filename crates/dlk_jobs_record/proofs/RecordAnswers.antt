@@ -18,7 +18,7 @@ long_answer steps p bytes reply bytes_are long is = subst (Records steps p) (sym
 -- a term file with the report of the last row
 pub short_answer : (steps : List Step) (p : Provable) (lines : ℕ) (report : Reply) (term : List ℕ) → report ≡ reported Text p lines → lines ≡ length steps →
     term ≡ term_text steps → length (term_text steps) ≤ limit_of Term →
-        Records steps p (record { status = report.status; printed = report.printed; written = Some term })
+    Records steps p (record { status = report.status; printed = report.printed; written = Some term })
 short_answer steps p lines report term is lines_are term_is short =
     let shown : report ≡ reported Text p (length steps) = is ∙ ap (λ n. reported Text p n) lines_are in
     let whole : record { status = report.status; printed = report.printed; written = Some term } ≡ recorded p steps =

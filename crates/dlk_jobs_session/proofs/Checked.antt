@@ -74,7 +74,7 @@ module _ (good : (f : Tree) (now last : State) (lines : List Line) (answers : Li
     All HasSymbols steps → IsLast rows p → Records steps p reply → reply.written ≡ Some term → IsWritten term rows p reply)
     (written_is_checked : (model term : List ℕ) (f : Tree) (rows : List Provable) (p : Provable) (reply : Reply) → ModelText model f →
     p.conclusion ≡ proves f → IsWritten term rows p reply →
-        (length term ≤ limit_of Term) × Checks (Reported Text) model term (printing reply.status reply.printed)) where
+    (length term ≤ limit_of Term) × Checks (Reported Text) model term (printing reply.status reply.printed)) where
   saved_proof : (s : _) (saved : _) (steps : List Step) → SavedIsProof s saved → saved ≡ Some steps → (rows : List Provable) × IsProof s steps rows
   saved_proof s saved steps h e = subst (SavedIsProof s) e h
 
@@ -91,7 +91,7 @@ module _ (good : (f : Tree) (now last : State) (lines : List Line) (answers : Li
       let is_last : IsLast rows last.1 = record { before = last.0; rows_are = last.2 } in
       let shown : last.1.conclusion ≡ proves f =
       ap (λ (p : Provable). p.conclusion) (at_one rows (length rows) last.1 proof.shows.0 (last_item rows last.0 last.1 last.2) proof.shows.1)
-          ∙ proof.shows.2 in
+      ∙ proof.shows.2 in
       let symbols = all_symbols w.steps proof.symbols in
       let file = recorded_is_written w.steps rows last.1 (recorded last.1 w.steps) term proof.taken symbols is_last (writes w.short) (ap Some w.term_is) in
       let checked = written_is_checked model term f rows last.1 (recorded last.1 w.steps) w.plays.reads shown file in

@@ -58,7 +58,7 @@ fewer_rows s rows count n some few within h = elim (place_cases (take count rows
   | inr out ↦ absurd (out (some, omega (arith, few, within, length-take count rows)))
   | inl found ↦
       let there : At rows n found.0 = subst (λ (l : List Provable). At l n found.0) (take-append-drop count rows)
-          (At-more (take count rows) (drop count rows) n found.0 found.1) in
+      (At-more (take count rows) (drop count rows) n found.0 found.1) in
       let same : found.0 ≡ h.0 = at_one rows n found.0 h.0 there h.1 in
       (found.0, found.1, ap (λ (p : Provable). p.conclusion) same ∙ h.2)
 ]

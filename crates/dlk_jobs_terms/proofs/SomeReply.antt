@@ -69,7 +69,7 @@ module _ (says : SaysSteps) where
             | inr fault ↦ (link_refused fault.0, past_limit some l.0 l.1 fault.0 fault.1)
             | inl after ↦
                 let last = row steps others l.0 rows more after.0 p q takes takes_lemma (replay_last term steps rows p main)
-                    (replay_last lemma others more q by) l.1
+                (replay_last lemma others more q by) l.1
                 some after.1 in
                 let reply = made l.0 last.0 (record { rows = after.0; takes = after.1; last = last.1 }) in
                 (reply.0, records some l.0 l.1 reply.0 reply.1)

@@ -76,8 +76,16 @@ module _ (rule_is : RuleIsItsCall) (term : List Step) (rows : List Provable) (ta
           | no unnamed ↦ no (λ n. by_place row last none n (λ e. unnamed (same_names row last step at n e)))
           | yes has ↦ elim (decided (suc last) lt) [
             | yes need ↦
-                yes (record { by = suc last; step = step; after = lt; within = omega arith; needed = need; at = at; names =
-                    contains_from_in (facts_of step) row has })
+                yes (record {
+                  by = suc last;
+                  step = step;
+                  after = lt;
+                  within = omega arith;
+                  needed = need;
+                  at = at;
+                  names =
+                      contains_from_in (facts_of step) row has;
+                })
             | no unneeded ↦ no (λ n. by_place row last none n (λ e. unneeded (subst (IsNeeded term) e n.needed)))
           ]
         ]

@@ -90,8 +90,13 @@ one_formed e pairs =
 
 one_paired : (substitution : List ℕ) (e : Tree) (r s : Reply) → Paired substitution e r → Paired substitution e s → r ≡ s
 one_paired substitution e =
-    one_fork _ _ _ _ (record { reason = one_pairs_fault substitution; either = λ why pairs a b. pairs_or_fault substitution pairs why b a; value =
-        one_pairs_text substitution; next = one_formed e })
+    one_fork _ _ _ _ (record {
+      reason = one_pairs_fault substitution;
+      either = λ why pairs a b. pairs_or_fault substitution pairs why b a;
+      value =
+          one_pairs_text substitution;
+      next = one_formed e;
+    })
 
 one_staged : (file substitution : List ℕ) (r s : Reply) → Staged file substitution r → Staged file substitution s → r ≡ s
 one_staged file substitution =

@@ -20,7 +20,7 @@ use Rattle.dlk_jobs_text.specs.Refused.{RefusesFile, RefusesPairs, RefusesPair, 
 -- an expression that was read into fewer trees, and pairs, are read
 pub both_read : (file substitution : List ℕ) (old new : List Tree) (id : Id) (e : Tree) (pairs same : List IdPair) →
     PlainText file e → StandsFor old id e → Keeps old new → PairsText substitution (pairs_at new pairs) → same ≡ pairs →
-        AreRead file substitution (tree new id) (pairs_at new same)
+    AreRead file substitution (tree new id) (pairs_at new same)
 both_read file substitution old new id e pairs same reads stands keeps text is =
     record {
       expression = subst (PlainText file) (sym (keeps.same id stands.known ∙ stands.tree_is)) reads;

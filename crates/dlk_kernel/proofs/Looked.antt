@@ -93,7 +93,7 @@ module _ {old now : List Tree} (keeps : Keeps old now) (pairs : List Pair) (are_
 
   pub row_looked : (row : Row) → IsKnownRow old row → here ≤ from + sequent_looks (pairs_at old pairs) (sequent_at old row.conclusion) →
       next ≤ here + sum_by (sequent_looks (pairs_at now pairs)) (map (sequent_at now) row.goals) →
-          next ≤ from + provable_looks (pairs_at old pairs) (provable_at old row)
+      next ≤ from + provable_looks (pairs_at old pairs) (provable_at old row)
   row_looked row known first then = omega (arith, first, then, sequents_looks_kept keeps pairs are_known row.goals known.goals)
 
 -- a substitution in a fact: its pairs are looked at first

@@ -69,7 +69,7 @@ module _ {X : Type 0} (text : X → List ℕ) (mark_of : X → Mark) (bytes : Li
   pub begins : (i : ℕ) (d : X) → i < length rows → get_or (text (get_or rows i d)) 0 0 ≡ get_or bytes 0 0
   begins i d lt =
       let passes = subst (All (λ m. (get_or (spelling m) 0 0 == get_or bytes 0 0) ≡ true)) (sym marks_are)
-          (all_pass (λ m. get_or (spelling m) 0 0 == get_or bytes 0 0) marks) in
+      (all_pass (λ m. get_or (spelling m) 0 0 == get_or bytes 0 0) marks) in
       let here = passes i (mark_of d) (omega (arith, lt, size)) in
       ap (λ (t : List ℕ). get_or t 0 0) (spells i d lt) ∙ ap (λ m. get_or (spelling m) 0 0) (sym (get_or-map mark_of rows i d)) ∙ eqb-true _ _ here
 

@@ -106,8 +106,15 @@ module _ (keys : Forest) (e : Tree) (Kids : Forest → Extra → Extra → Type 
   down (Op'.Const s) h p = absurd (not_true h)
   down (Op'.System items) h p = absurd (not_true h)
   down (Op'.Variable v) h p =
-      record { mid = p.1; target = Op'.Variable (record { name = p.0; primed = v.primed }); kids = p.3.0; node_is = p.3.1; like =
-          (p.0, refl, p.2); rest = p.3.2 }
+      record {
+        mid = p.1;
+        target = Op'.Variable (record { name = p.0; primed = v.primed });
+        kids = p.3.0;
+        node_is = p.3.1;
+        like =
+            (p.0, refl, p.2);
+        rest = p.3.2;
+      }
   down (Op'.Forall x) h p = record { mid = p.1; target = Op'.Forall p.0; kids = p.3.0; node_is = p.3.1; like = (p.0, refl, p.2); rest = p.3.2 }
   down (Op'.Exists x) h p = record { mid = p.1; target = Op'.Exists p.0; kids = p.3.0; node_is = p.3.1; like = (p.0, refl, p.2); rest = p.3.2 }
   down (Op'.Assign v) h p =

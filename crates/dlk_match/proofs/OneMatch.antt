@@ -91,7 +91,7 @@ one_taken {old = old} {a = a} {b = b} (equation_last {s = c} {x = x} {e = e} y m
     let last = one_equation (sym (last_is (m ∷ ms) (Equation y e)) ∙ ap last_of both ∙ last_is (n ∷ ns) (Equation z f)) in
     let front : m ∷ ms ≡ n ∷ ns = sym (front_is (m ∷ ms) (Equation y e)) ∙ ap front_of both ∙ front_is (n ∷ ns) (Equation z f) in
     let same : mid ≡ nid = one_replacement c (system_of (n ∷ ns)) old mid nid
-        (subst (λ (all : List Member). GetsReplacement c (system_of all) old mid) front p) q in
+    (subst (λ (all : List Member). GetsReplacement c (system_of all) old mid) front p) q in
     let moved : GetsName x z nid a = subst (λ (w : List ℕ). GetsName x w nid a) last.0 (subst (λ (k : Extra). GetsName x y k a) same r) in
     (one_name x z nid a b moved s, ap (λ t. t ∷ []) last.1)
 one_taken {old = old} {a = a} {b = b} (two_constants {s = c} {t = d} {m = m} {n = n} {ms = ms} mid p r) (two_constants nid q s) =
@@ -136,7 +136,7 @@ module _ (keys : Forest) (e : Tree) (Kids : Forest → Extra → Extra → Type 
       let same = one_taken moved p.taken in
       let kids = subst (λ es. Kids es q.mid b) (λ i. forest (same.1 i ++ last (nodes.1 i) ∷ [])) q.kids in
       one (forest (p.sides ++ last p.target_kids ∷ [])) p.mid a b p.kids
-          (subst (λ (k : Extra). Kids (forest (p.sides ++ last p.target_kids ∷ [])) k b) same.0 kids)
+      (subst (λ (k : Extra). Kids (forest (p.sides ++ last p.target_kids ∷ [])) k b) same.0 kids)
 
   one_at : (op : Op) (old a b : Extra) → MatchesAt op keys e Kids old a → MatchesAt op keys e Kids old b → a ≡ b
   one_at (Op'.Variable v) old a b p q = one_named (λ y. Op'.Variable (record { name = y; primed = v.primed })) (name_of v.primed) v.name p.0 q.0 old p.1 q.1 a

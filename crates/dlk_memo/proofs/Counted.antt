@@ -41,7 +41,7 @@ module _ (unique : Bool) (price : ℕ) (root : Tree) (trees : List Tree) (old ta
   pub spent_few : IsTrue unique → HasOneId trees → s1 ≤ s0 + distinct_count (subtrees root) * price
   spent_few u one =
       let few = ids_few trees one (keys_of table) (record { apart = λ i j d a b. apart_from_distinct same_id (keys_of table) i j d h.once a b })
-          (subtrees root) each_within in
+      (subtrees root) each_within in
       let count : length table ≤ distinct_count (subtrees root) = omega (arith, few, length-keys_of table) in
       let up : length table * price ≤ distinct_count (subtrees root) * price = mul-le-mul_right price count in
       let none : length old * price ≡ 0 * price = ap (λ n. n * price) (ap length empty) in

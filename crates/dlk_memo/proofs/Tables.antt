@@ -240,7 +240,7 @@ module _ (unique : Bool) (m : ℕ) (root : Tree) (trees : List Tree) (old begun 
       by : ((id ≡ k) × (r ≡ no_result)) ⊎ (found old k ≡ Some r) → IsSome (found old k) ⊎ (IsId trees k × Contains (subtrees root) (tree trees k))
       by (inl p) =
           inr (subst (λ j. IsId trees j × Contains (subtrees root) (tree trees j)) p.0
-              (known, subst (λ t. Contains (subtrees root) t) (sym root_is) (root_within root)))
+          (known, subst (λ t. Contains (subtrees root) t) (sym root_is) (root_within root)))
       by (inr p) = inl (some_is (found old k) r p)
 
   pub spends_opened : Opened old begun id s0 s1 → (new : Table) (s2 s3 : ℕ) → Spends unique (1 + m) root trees begun new s1 s2
@@ -267,7 +267,7 @@ module _ (unique : Bool) (m : ℕ) (root : Tree) (trees : List Tree) (old begun 
   spends_failed once (inr un) =
       subst (λ t. Spends unique (1 + m) root trees old t s0 s1) (sym un.same)
       (subst (λ s. Spends unique (1 + m) root trees old old s0 s) (sym un.no_step)
-          (spends_none unique (1 + m) root trees old s0 (subst HasEachOnce un.same once)))
+      (spends_none unique (1 + m) root trees old s0 (subst HasEachOnce un.same once)))
 
   -- the entry of the node gets its result
   pub spends_finished : {E : Type 0} (grown new : Table) (result : Result Id E) (s2 : ℕ) → IfOk result (λ made. Puts grown new id (Some made))
@@ -284,7 +284,7 @@ module _ (unique : Bool) (m : ℕ) (root : Tree) (trees : List Tree) (old begun 
           → IsSome (found begun k) ⊎ (IsId trees k × Contains (subtrees root) (tree trees k))
       by k r (inl p) =
           inr (subst (λ j. IsId trees j × Contains (subtrees root) (tree trees j)) p.0
-              (known, subst (λ t. Contains (subtrees root) t) (sym root_is) (root_within root)))
+          (known, subst (λ t. Contains (subtrees root) t) (sym root_is) (root_within root)))
       by k r (inr p) = h.entry k r p
 
 -- ---- a kid of a node

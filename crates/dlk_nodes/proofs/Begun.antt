@@ -99,7 +99,7 @@ module _ {B : Type 0} (f : B → Tree) (old : List Tree) (more : List Tree) (ite
       let t = f (get_or items i d) in
       let rest = map f (drop (i + 1) items) in
       same_left (ap (λ n. new_in_each n rest) (sym e))
-          (were_put (new_nodes now t) (new_in_each (now ++ new_nodes now t) rest) (next_tree_left now i d less s) e)
+      (were_put (new_nodes now t) (new_in_each (now ++ new_nodes now t) rest) (next_tree_left now i d less s) e)
 
   pub tree_begun : (now new : List Tree) (i : ℕ) (d : B) → i < length items → AreBegun now new (new_nodes now (f (get_or items i d))) →
       PutSoFar old more now (new_in_each now (map f (drop i items))) → AreBegun old new more

@@ -102,9 +102,13 @@ kids_measure : (ill : Option ℕ) (o : Op) (ps : List Phrase) →
 unfolding so_far tree_measure
 kids_measure ill o ps =
     let e : fold with_kid (record { ill = ill; size = 1; depth = 0 }) (map measure ps) ≡ so_far (lesser ill (lowest (flat_map ills ps)))
-        (1 + size_all (forest (map erase ps))) (max 0 (depth_all (forest (map erase ps)))) = with_kids ps ill 1 0 in
-    ap raised e ∙ (λ i. record { ill = lesser ill (lowest (flat_map ills ps)); size = min (1 + size_all (forest (map erase ps))) 4294967295; depth =
-        raised_depth (depth_all (forest (map erase ps))) i })
+    (1 + size_all (forest (map erase ps))) (max 0 (depth_all (forest (map erase ps)))) = with_kids ps ill 1 0 in
+    ap raised e ∙ (λ i. record {
+      ill = lesser ill (lowest (flat_map ills ps));
+      size = min (1 + size_all (forest (map erase ps))) 4294967295;
+      depth =
+          raised_depth (depth_all (forest (map erase ps))) i;
+    })
 
 measure-same : (p : Phrase) (places : List ℕ) (t : Tree) → ills p ≡ places → erase p ≡ t → measure p ≡ tree_measure (lowest places) t
 unfolding tree_measure
@@ -126,7 +130,7 @@ over_step p c o w s =
     let n : pops c ≡ length (map measure (parts p)) = pops_are c o w.operator_is ∙ sym w.long ∙ sym (length-map (parts p) measure) in
     let m : over_kids (lowest (place_of c)) (map measure (parts p)) ≡ measure p =
     kids_measure (lowest (place_of c)) o (parts p)
-        ∙ ap (λ ill. tree_measure ill (node o (forest (map erase (parts p))))) (sym (lowest-append (place_of c) (flat_map ills (parts p))))
+    ∙ ap (λ ill. tree_measure ill (node o (forest (map erase (parts p))))) (sym (lowest-append (place_of c) (flat_map ills (parts p))))
     ∙ sym (measure-same p (place_of c ++ flat_map ills (parts p)) (node o (forest (map erase (parts p)))) w.places w.tree_is) in
     step_is (s ++ map measure (parts p)) c o w.operator_is ∙ joined_is s (map measure (parts p)) (pops c) (lowest (place_of c)) n ∙ ap (λ k. s ++ k ∷ []) m
 
@@ -135,7 +139,7 @@ beside_is : (q : Phrase) (l : Phrases) → beside (measure q ∷ map measure (ph
 unfolding tree_measure
 beside_is q l =
     let places : lesser (lowest (ills q)) (lowest (flat_map ills (phrases_in l))) ≡ lowest (ills (Noted q l)) =
-        sym (lowest-append (ills q) (flat_map ills (phrases_in l))) ∙ ap (λ ns. lowest (ills q ++ ns)) (sym (ills_of_all_is l)) in
+    sym (lowest-append (ills q) (flat_map ills (phrases_in l))) ∙ ap (λ ns. lowest (ills q ++ ns)) (sym (ills_of_all_is l)) in
     let k = kids_measure (lowest (ills q)) op.Loop (phrases_in l) in
     λ i. record { ill = (ap (λ m. m.ill) k ∙ places) i; size = min (size (erase q)) 4294967295; depth = min (depth (erase q)) 4294967295 } ∷ []
 

@@ -53,18 +53,18 @@ pub put_is : {old new : List Tree} (o : Op) (ids : List Id) (id : Id) → Keeps 
 put_is {old} {new} o ids id keeps known made =
     let n = length (kid_sorts o) in
     let front : map (tree new) (below n ids) ≡ below n (map (tree old) ids) = trees-kept keeps (below n ids) (All-take (IsId old) (length ids - n) ids known)
-        ∙ below-map (tree old) n ids in
+    ∙ below-map (tree old) n ids in
     let here : tree new id ≡ node o (forest (top n (map (tree old) ids))) = made.tree_is
-        ∙ ap (node o) (kid_trees_are old (top n ids) ∙ ap forest (top-map (tree old) n ids)) in
+    ∙ ap (node o) (kid_trees_are old (top n ids) ∙ ap forest (top-map (tree old) n ids)) in
     map-append (tree new) (below n ids) (id ∷ []) ∙ (λ i. front i ++ here i ∷ [])
 
 pub put_made : {old new : List Tree} (o : Op) (ids shorter longer : List Id) (id : Id) (at : ℕ) → at ≡ length ids - length (kid_sorts o) → Keeps old new →
     All (IsId old) ids
     → StandsFor new id (node o (kid_trees old (take (length ids - at) (drop at ids)))) → shorter ≡ take at ids → longer ≡ shorter ++ id ∷ [] →
-        map (tree new) longer ≡ put o (map (tree old) ids)
+    map (tree new) longer ≡ put o (map (tree old) ids)
 put_made {old} {new} o ids shorter longer id at e keeps known made f g =
     let made-at : StandsFor new id (node o (kid_trees old (top (length (kid_sorts o)) ids))) =
-        subst (λ ks. StandsFor new id (node o (kid_trees old ks))) (take_rest ids at ∙ ap (λ n. drop n ids) e) made in
+    subst (λ ks. StandsFor new id (node o (kid_trees old ks))) (take_rest ids at ∙ ap (λ n. drop n ids) e) made in
     let parts : longer ≡ below (length (kid_sorts o)) ids ++ id ∷ [] = g ∙ ap (λ l. l ++ id ∷ []) (f ∙ ap (λ n. take n ids) e) in
     ap (map (tree new)) parts ∙ put_is o ids id keeps known made-at
 
@@ -85,7 +85,7 @@ pub put_fits : (trees : List Tree) (o : Op) (ids : List Id) → All WellMade (pu
 put_fits trees o ids all =
     let n = length (kid_sorts o) in
     let fits : Fits o (sorts (forest (top n (map (tree trees) ids)))) =
-        (last_well_made (below n (map (tree trees) ids)) (node o (forest (top n (map (tree trees) ids)))) all).0 in
+    (last_well_made (below n (map (tree trees) ids)) (node o (forest (top n (map (tree trees) ids)))) all).0 in
     subst (Fits o) (ap (λ ts. sorts (forest ts)) (sym (top-map (tree trees) n ids)) ∙ sorts_are trees (top n ids)) fits
 
 -- outside of notes
@@ -143,7 +143,7 @@ module _ {p : Phrase} (c : Code) (o : Op) (w : IsOver p c o) (all : All Makes (p
       let n : length (kid_sorts o) ≡ length (map erase (parts p)) = sym w.long ∙ sym (length-map (parts p) erase) in
       let under = below_is ts (map erase (parts p)) (length (kid_sorts o)) n in
       let kids : node o (forest (top (length (kid_sorts o)) (ts ++ map erase (parts p)))) ≡ erase p =
-          ap (λ us. node o (forest us)) (top_is ts (map erase (parts p)) (length (kid_sorts o)) n) ∙ sym w.tree_is in
+      ap (λ us. node o (forest us)) (top_is ts (map erase (parts p)) (length (kid_sorts o)) n) ∙ sym w.tree_is in
       λ i. under i ++ kids i ∷ []
 
   over_makes : Makes p
@@ -198,7 +198,7 @@ before_put o ts all =
     let n = length (kid_sorts o) in
     let node_made : WellMade (node o (forest (top n ts))) = last_well_made (below n ts) (node o (forest (top n ts))) all in
     All-same WellMade ts (below n ts ++ top n ts) (sym (take-append-drop (length ts - n) ts))
-        (All-append WellMade (below n ts) (top n ts) (front_well_made (below n ts) (node o (forest (top n ts))) all) (kids_well_made (top n ts) node_made.1))
+    (All-append WellMade (below n ts) (top n ts) (front_well_made (below n ts) (node o (forest (top n ts))) all) (kids_well_made (top n ts) node_made.1))
 
 before_outside : (o : Op) (n : ℕ) (ts : List Tree) → All WellMade (put_outside o (making n ts)).trees → All WellMade ts
 before_outside o zero ts all = before_put o ts all
@@ -220,7 +220,7 @@ pub next_well_made : (m : Making) (c : Code) (code rest after : List Code) → I
     rest ≡ c ∷ after → AllWellMade (make_step m c)
 next_well_made m c code rest after w ends e =
     let same : fold make_step (make_step m c) after ≡ making 0 (map erase w.phrases) = ap (fold make_step m) (sym e) ∙ ends
-        ∙ ap (fold make_step (making 0 [])) w.code_is ∙ phrases_made w.phrases in
+    ∙ ap (fold make_step (making 0 [])) w.code_is ∙ phrases_made w.phrases in
     record { each = before (make_step m c) after (subst (λ k. All WellMade k.trees) (sym same) (All-map WellMade erase w.phrases w.well_made)) }
 
 -- nothing of the code is left

@@ -214,9 +214,13 @@ right_sides_long (add l (Flow x s)) = right_sides_long l
 
 system_long : (l : Items) (a : Phrase) →
     length (right_sides l ++ a ∷ []) ≡ length (replicate (length (evolved (ode_items l))) sort_of.Term ++ sort_of.Formula ∷ [])
-system_long l a = omega (arith, length-append (right_sides l) (a ∷ []), right_sides_long l,
-    length-append (replicate (length (evolved (ode_items l))) sort_of.Term) (sort_of.Formula ∷ []),
-    length-replicate (length (evolved (ode_items l))) sort_of.Term)
+system_long l a = omega (
+  arith,
+  length-append (right_sides l) (a ∷ []),
+  right_sides_long l,
+  length-append (replicate (length (evolved (ode_items l))) sort_of.Term) (sort_of.Formula ∷ []),
+  length-replicate (length (evolved (ode_items l))) sort_of.Term,
+)
 
 call_long : (l : Phrases) → length (phrases_in l) ≡ length (replicate (count l) sort_of.Term)
 call_long l = sym (count_is l) ∙ sym (length-replicate (count l) sort_of.Term)

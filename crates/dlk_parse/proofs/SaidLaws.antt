@@ -116,7 +116,7 @@ pub sort_read : (form : Form) (f : Nonterminal) → ((s : List Lexeme) (p : Phra
     (d : Dots) (tokens : List Token) (t : Tree) → AreTokens tokens → IsTree form d tokens t → sort t ≡ form_sort f
 sort_read form f as_form d tokens t real a =
     sym (ap sort a.value_is) ∙ (formed (as_form (lexemes tokens) a.phrase a.says.reads) (lexemes_real 0 tokens real.real)
-        (tree_not_ill form d tokens t a)).sort_is
+    (tree_not_ill form d tokens t a)).sort_is
 
 -- the formulas of both sides
 pub All-from_map : {A B : Type 0} (P : B → Type 0) (f : A → B) (xs : List A) → All P (map f xs) → All (λ x. P (f x)) xs
@@ -126,7 +126,7 @@ All-from_map P f (x ∷ xs) h = All-cons (λ x. P (f x)) x xs (All-head P (f x) 
 side_well_made : (l : Phrases) → All IsFormula (erase_all l) → All (λ p. WellMade (erase p)) (phrases_in l)
 side_well_made l all =
     All-from_map WellMade erase (phrases_in l)
-        (All-weaker IsFormula WellMade (λ t f. f.well_made) (map erase (phrases_in l)) (subst (All IsFormula) (erase_all_is l) all))
+    (All-weaker IsFormula WellMade (λ t f. f.well_made) (map erase (phrases_in l)) (subst (All IsFormula) (erase_all_is l) all))
 
 sides_well_made : (z : Sides) → IsSequent (erase_sides z) → All (λ p. WellMade (erase p)) (both_sides z)
 sides_well_made (Turned l m) s = All-append (λ p. WellMade (erase p)) (phrases_in l) (phrases_in m) (side_well_made l s.ante) (side_well_made m s.succ)
@@ -136,7 +136,7 @@ split_sides : (z : Sides) (ts : List Tree) (n : ℕ) → ts ≡ map erase (both_
     ◌≡◌ {A = TreeSequent} (erase_sides z) (record { ante = take n ts; succ = drop n ts })
 split_sides (Turned l m) ts n e f =
     let parted : ts ≡ erase_all l ++ erase_all m = e ∙ map-append erase (phrases_in l) (phrases_in m)
-        ∙ (λ i. sym (erase_all_is l) i ++ sym (erase_all_is m) i) in
+    ∙ (λ i. sym (erase_all_is l) i ++ sym (erase_all_is m) i) in
     let long : length (erase_all l) ≡ n = ap length (erase_all_is l) ∙ length-map (phrases_in l) erase ∙ sym (count_is l) ∙ sym f in
     let left : erase_all l ≡ take n ts = sym (take_at (erase_all l) (erase_all m) n long) ∙ ap (take n) (sym parted) in
     let right : erase_all m ≡ drop n ts = sym (drop_at (erase_all l) (erase_all m) n long) ∙ ap (drop n) (sym parted) in
@@ -150,8 +150,12 @@ module _ (tokens : List Token) (s : SidesCode) (h : AreReadSides tokens s) where
   sides_read = record { phrase = h.said; says = h.says; value_is = refl; no_fault = h.no_fault }
 
   pub sides_made : AreTokens tokens → IsWellMade s.code.items
-  sides_made real = record { phrases = both_sides h.said; code_is = h.code_is; well_made =
-      sides_well_made h.said (sequent_formulas tokens (erase_sides h.said) real sides_read) }
+  sides_made real = record {
+    phrases = both_sides h.said;
+    code_is = h.code_is;
+    well_made =
+        sides_well_made h.said (sequent_formulas tokens (erase_sides h.said) real sides_read);
+  }
 
   module _ (trees : List Tree) (ids : List Id) (made : AreMade s.code.items trees ids) where
     made_are : map (tree trees) ids ≡ map erase (both_sides h.said)
@@ -165,4 +169,4 @@ module _ (tokens : List Token) (s : SidesCode) (h : AreReadSides tokens s) where
         let ante : take s.left (map (tree trees) ids) ≡ map (tree trees) z.ante = take-map (tree trees) s.left ids ∙ ap (map (tree trees)) (sym e) in
         let succ : drop s.left (map (tree trees) ids) ≡ map (tree trees) z.succ = drop-map (tree trees) s.left ids ∙ ap (map (tree trees)) (sym f) in
         subst (IsSequentOf tokens) (split_sides h.said (map (tree trees) ids) s.left made_are h.left_is ∙ (λ i. record { ante = ante i; succ = succ i }))
-            sides_read
+        sides_read

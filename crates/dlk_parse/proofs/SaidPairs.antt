@@ -68,7 +68,7 @@ module _ (tokens : List Token) where
       pub pairs_code_made : AreTokens tokens → IsWellMade c.code.items
       pairs_code_made real =
           let made = All-from_map (λ (p : TreePair). WellMade p.by) (λ (p : PairPhrase). record { sym = p.sym; by = erase p.by }) h.said
-              (pairs_well_made tokens (erase_pairs h.said) real are_pairs) in
+          (pairs_well_made tokens (erase_pairs h.said) real are_pairs) in
           record { phrases = replacements h.said; code_is = h.shown.code; well_made = All-map (λ p. WellMade (erase p)) (λ (p : PairPhrase). p.by) h.said made }
 
       module _ (trees : List Tree) (ids : List Id) (made : AreMade c.code.items trees ids) where

@@ -58,11 +58,11 @@ module _ (f : Tree → ℕ) (limit : ℕ) (low : limit < 4294967295) where
   first_past (t ∷ ts) n e = elim (either t) [
     | inl h ↦
         let number : Some (min (f t) 4294967295) ≡ Some n =
-            ap (λ b. cond b (Some (min (f t) 4294967295)) (past limit (map (λ t. min (f t) 4294967295) ts))) (sym (over t h)) ∙ e in
+        ap (λ b. cond b (Some (min (f t) 4294967295)) (past limit (map (λ t. min (f t) 4294967295) ts))) (sym (over t h)) ∙ e in
         record { before = []; tree = t; behind = ts; trees_are = refl; past = h; first = All-nil (λ (u : Tree). f u ≤ limit); number = cc }
     | inr h ↦
         one_later t ts n h (first_past ts n (ap (λ b. cond b (Some (min (f t) 4294967295)) (past limit (map (λ t. min (f t) 4294967295) ts)))
-            (sym (under t h)) ∙ e))
+        (sym (under t h)) ∙ e))
   ]
 
   pub none_past : (ts : List Tree) → past limit (map (λ t. min (f t) 4294967295) ts) ≡ None → All (λ t. f t ≤ limit) ts
@@ -70,11 +70,11 @@ module _ (f : Tree → ℕ) (limit : ℕ) (low : limit < 4294967295) where
   none_past (t ∷ ts) e = elim (either t) [
     | inl h ↦
         let number : Some (min (f t) 4294967295) ≡ None =
-            ap (λ b. cond b (Some (min (f t) 4294967295)) (past limit (map (λ t. min (f t) 4294967295) ts))) (sym (over t h)) ∙ e in
+        ap (λ b. cond b (Some (min (f t) 4294967295)) (past limit (map (λ t. min (f t) 4294967295) ts))) (sym (over t h)) ∙ e in
         absurd cc
     | inr h ↦
         All-cons (λ (u : Tree). f u ≤ limit) t ts h
-            (none_past ts (ap (λ b. cond b (Some (min (f t) 4294967295)) (past limit (map (λ t. min (f t) 4294967295) ts))) (sym (under t h)) ∙ e))
+        (none_past ts (ap (λ b. cond b (Some (min (f t) 4294967295)) (past limit (map (λ t. min (f t) 4294967295) ts))) (sym (under t h)) ∙ e))
   ]
 
 sizes_are : (ps : List Phrase) → map (λ m. m.size) (map measure ps) ≡ map (λ t. min (size t) 4294967295) (map erase ps)
@@ -108,9 +108,11 @@ module _ (ms : List Measure) where
     pub deep_is : (starts : List ℕ) (n : ℕ) → past most_nodes (map (λ m. m.size) ms) ≡ None → past greatest_depth (map (λ m. m.depth) ms) ≡ Some n →
         KnowsBeyond ms starts (parse.TooDeep n)
     deep_is starts n g e = record {
-      of_phrases = λ ps f.
-          (shape ps f, none_past size most_nodes (lit< tt) (map erase ps) (sizes ps f None g),
-              first_past depth greatest_depth (lit< tt) (map erase ps) n (depths ps f (Some n) e));
+      of_phrases = λ ps f. (
+        shape ps f,
+        none_past size most_nodes (lit< tt) (map erase ps) (sizes ps f None g),
+        first_past depth greatest_depth (lit< tt) (map erase ps) n (depths ps f (Some n) e),
+      );
     }
 
     pub fine_is : past most_nodes (map (λ m. m.size) ms) ≡ None → past greatest_depth (map (λ m. m.depth) ms) ≡ None → KnowsWithin ms

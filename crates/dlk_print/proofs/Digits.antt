@@ -18,7 +18,7 @@ digits_onto-before (suc k) n acc =
     let long = digits_onto-before k (n / 10) (d ∷ acc) in
     let short = digits_onto-before k (n / 10) (d ∷ []) in
     by_test (n / 10 == 0) d (digits_onto k 10 false (n / 10) []) (digits_onto k 10 false (n / 10) (d ∷ acc)) (digits_onto k 10 false (n / 10) (d ∷ []))
-        long short
+    long short
   where
     by_test : (b : Bool) (d : ℕ) (front long short : List ℕ) → long ≡ front ++ d ∷ acc → short ≡ front ++ d ∷ [] →
         cond b (d ∷ acc) long ≡ cond b (d ∷ []) short ++ acc

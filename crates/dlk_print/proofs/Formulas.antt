@@ -25,7 +25,7 @@ pub at_formula : {old text now : List ℕ} (trees : List Tree) (between : List P
     ++ (spell (shown (tree trees (get_or ids i d))) ++ spell (pending shown between (i + 1) (map (tree trees) (drop (i + 1) ids)))))
 at_formula trees between ids i d h a =
     same_rest (ap (λ ts. spell (pending shown between i ts)) (trees_at trees ids i d h)
-        ∙ pending-next shown between i (tree trees (get_or ids i d)) (map (tree trees) (drop (i + 1) ids))) a
+    ∙ pending-next shown between i (tree trees (get_or ids i d)) (map (tree trees) (drop (i + 1) ids))) a
 
 -- no formula is left
 pub past_formulas : {old text now : List ℕ} (trees : List Tree) (between : List Piece) (ids : List Id) (i : ℕ) → length ids ≤ i →

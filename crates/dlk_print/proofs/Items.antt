@@ -29,8 +29,8 @@ at_item trees between items ks i item e h a =
     let here : drop i items ≡ item ∷ drop (i + 1) items = rw add-one (drop-cons items i item h ∙ ap (λ it. it ∷ drop (suc i) items) (sym e)) in
     let first = ap (λ its. spell (pending (λ t. t) between i (item_texts its (texts_of trees ks)))) here in
     let behind = ap (λ ts. gap i (spell between)
-        ++ (spell (item_text item (texts_of trees ks)) ++ spell (pending (λ t. t) between (i + 1) (item_texts (drop (i + 1) items) ts))))
-        (texts_behind trees item ks) in
+    ++ (spell (item_text item (texts_of trees ks)) ++ spell (pending (λ t. t) between (i + 1) (item_texts (drop (i + 1) items) ts))))
+    (texts_behind trees item ks) in
     same_rest (first ∙ pending-next (λ t. t) between i (item_text item (texts_of trees ks)) later ∙ behind) a
 
 -- no item is left

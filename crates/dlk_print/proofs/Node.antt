@@ -47,7 +47,7 @@ pub at_kid : {old text now : List ℕ} (trees : List Tree) (o : Op) (ks : List I
 at_kid trees o ks i d h a =
     let first = ap (λ f. spell (pending (λ t. t) (between o) i (shown_kids o i f))) (kid_trees-drop trees ks i d h) in
     same_rest (first ∙ pending-next (λ t. t) (between o) i (shown_at (least o i) (tree trees (get_or ks i d)))
-        (shown_kids o (i + 1) (kid_trees trees (drop (i + 1) ks)))) a
+    (shown_kids o (i + 1) (kid_trees trees (drop (i + 1) ks)))) a
 
 -- no kid is left
 pub past_kids : {old text now : List ℕ} (trees : List Tree) (o : Op) (ks : List Id) (i : ℕ) → length ks ≤ i →

@@ -34,7 +34,7 @@ pub at_pair : {old text now : List ℕ} (trees : List Tree) (pairs : List Pair) 
     ++ spell (pending shown_pair comma (i + 1) (pairs_at trees (drop (i + 1) pairs)))))
 at_pair trees pairs i p e h a =
     same_rest (ap (λ ps. spell (pending shown_pair comma i ps)) (pairs_from trees pairs i p e h)
-        ∙ pending-next shown_pair comma i (pair_at trees p) (pairs_at trees (drop (i + 1) pairs))) a
+    ∙ pending-next shown_pair comma i (pair_at trees p) (pairs_at trees (drop (i + 1) pairs))) a
 
 -- no pair is left
 pub past_pairs : {old text now : List ℕ} (trees : List Tree) (pairs : List Pair) (i : ℕ) → length pairs ≤ i →

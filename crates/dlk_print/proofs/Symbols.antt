@@ -43,7 +43,7 @@ pub past_dots : {old text now : List ℕ} (i count : ℕ) → count ≤ i → Le
 past_dots i count h a =
     let none : count - i ≡ 0 = omega arith in
     same_rest (ap (λ n. spell (pending (λ t. t) (mark Comma ∷ []) i (dots_from i n)) ++ 41 ∷ []) none
-        ∙ ap (λ l. l ++ 41 ∷ []) (pending-none (λ t. t) (mark Comma ∷ []) i)) a
+    ∙ ap (λ l. l ++ 41 ∷ []) (pending-none (λ t. t) (mark Comma ∷ []) i)) a
 
 -- of a symbol nothing was appended yet
 pub unbegun_dotted : (old : List ℕ) (s : Sym) → (s.kind ≡ Func) ⊎ (s.kind ≡ Pred) →

@@ -196,13 +196,13 @@ args_fine [] p all f = empty_fine p f
 args_fine (t ∷ ts) p all f =
     let a = joined_apart Term comma comma_fine (λ p d. refl) (shown_at 1 t) (texts_of ts) (texts_apart (t ∷ ts) all) in
     before_fine mark.OpenRound _ refl (a.begins (the_mark mark.CloseRound ∷ p))
-        (a.fine (the_mark mark.CloseRound ∷ p) (alone_fine mark.CloseRound p refl f) refl)
+    (a.fine (the_mark mark.CloseRound ∷ p) (alone_fine mark.CloseRound p refl f) refl)
 
 call_apart : {u : Sort} (x : List ℕ) (ts : List Tree) → is_name x ≡ true → Each (KidApart Term) ts →
     Apart u (word x ∷ the_mark mark.OpenRound ∷ (joined comma (texts_of ts) ++ the_mark mark.CloseRound ∷ []))
 call_apart x ts h all = named x (the_mark mark.OpenRound ∷ (joined comma (texts_of ts) ++ the_mark mark.CloseRound ∷ [])) h (λ p. refl)
     (λ p f. subst (λ (l : List Piece). Fine (the_mark mark.OpenRound ∷ l)) (sym (append_assoc (joined comma (texts_of ts)) (the_mark mark.CloseRound ∷ []) p))
-        (args_fine ts p all f))
+    (args_fine ts p all f))
 
 apply_apart : (s : Sym) (kids : Forest) → is_sym_of Func s ≡ true → sorts kids ≡ replicate s.arity Term → AllKids KidApart kids → BodyApart (op.Apply s) kids
 apply_apart s kids h e all = same_apart (ap
@@ -230,10 +230,14 @@ items_apart (Const s ∷ items) ts h all =
 items_apart (Evolve x ∷ items) [] h all = absurd all
 items_apart (Evolve x ∷ items) (t ∷ ts) h all =
     let w = and_parts (is_item (Evolve x)) (list_all is_item items) h in
-    let a = all.0 1 in
-    (record { begins = λ p. begins_name x _ w.0; fine =
-        λ p f s. name_fine x _ w.0 refl (alone_fine mark.Prime _ refl (before_fine mark.Equal _ refl (a.begins p) (a.fine p f s))) },
-        items_apart items ts w.1 all.1)
+    let a = all.0 1 in (
+      record {
+        begins = λ p. begins_name x _ w.0;
+        fine =
+            λ p f s. name_fine x _ w.0 refl (alone_fine mark.Prime _ refl (before_fine mark.Equal _ refl (a.begins p) (a.fine p f s)));
+      },
+      items_apart items ts w.1 all.1,
+    )
 
 all_items_apart : (items : List OdeItem) (ts : List Tree) → are_items items ≡ true → Sides (KidApart Term) items ts →
     Apart Term (joined comma (item_texts items (texts_of ts)))
@@ -251,7 +255,7 @@ system_apart items kids h e all w =
     let k = system_kids KidApart items kids e all w in
     same_apart (ap (λ (l : List Piece). the_mark mark.OpenBrace ∷ (l ++ the_mark mark.CloseBrace ∷ [])) (inside_is KidApart items kids k))
     (braced {s = Term} (system_inside items (trees_in kids) k.domain) (the_mark mark.CloseBrace ∷ []) (go k (is_true (root k.domain)) refl)
-        (λ p f. alone_fine mark.CloseBrace p refl f) (λ p s. refl))
+    (λ p f. alone_fine mark.CloseBrace p refl f) (λ p s. refl))
   where
     go : (k : SystemKids KidApart items kids) → (b : Bool) → is_true (root k.domain) ≡ b → Apart Term (system_inside items (trees_in kids) k.domain)
     go k true e = rw e (same_apart (append-nil (joined comma (item_texts items (texts_of (trees_in kids))))) (all_items_apart items (trees_in kids) h k.sides))
@@ -272,7 +276,7 @@ assigned x c a h k ends behind =
     let text = (shown_at 1 a ++ []) ++ the_mark mark.Semicolon ∷ [] in
     let y = one_apart {u = Program} (shown_at 1 a) (the_mark mark.Semicolon ∷ []) (k 1) (λ p f. alone_fine mark.Semicolon p refl f) (λ p s. refl) in
     named x (c ++ text) h (λ p. subst Ends (sym (append_assoc c text p)) (ends (text ++ p)))
-        (λ p f. subst Fine (sym (append_assoc c text p)) (behind (text ++ p) (y.fine p f tt)))
+    (λ p f. subst Fine (sym (append_assoc c text p)) (behind (text ++ p) (y.fine p f tt)))
 
 assign_apart : (x : List ℕ) (primed : Bool) → is_name x ≡ true → (a : Tree) → KidApart Term a →
     BodyApart (op.Assign (record { name = x; primed = primed })) (kid a no_kids)

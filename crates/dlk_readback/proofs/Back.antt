@@ -167,8 +167,13 @@ body_back op.Dia kids e all w = two_of Back (BodyBack op.Dia) Program Formula ki
     (λ a b d f n. same_text (two_kids n (opening op.Dia) (shown_at 1 a) (between op.Dia) (shown_at 5 b))
     (two_told Phrases.Dia op.Dia (λ p q. Grammar.unf-dia) (λ p q. refl) (λ p q. refl) (d 1 (n + 1)) (f 5 (behind (n + 1) (shown_at 1 a) + 1))))
 body_back (op.Const s) kids e all w = leaf_back (op.Const s) kids e.kids_fit
-    (λ n. record { phrase = Phrases.Const s.name; reads = Grammar.stmt-const; erased =
-    ap (λ (y : Sym). node (op.Const y) no_kids) (bare_symbol Prog s e.parts_fit (λ m. refl) refl); no_ills = refl })
+    (λ n. record {
+      phrase = Phrases.Const s.name;
+      reads = Grammar.stmt-const;
+      erased =
+          ap (λ (y : Sym). node (op.Const y) no_kids) (bare_symbol Prog s e.parts_fit (λ m. refl) refl);
+      no_ills = refl;
+    })
 body_back (op.Assign v) kids e all w = one_of Back (BodyBack (op.Assign v)) Term kids e.kids_fit all (assign_back v.name v.primed)
 body_back (op.Any x) kids e all w = leaf_back (op.Any x) kids e.kids_fit
     (λ n. record { phrase = Phrases.AssignAny x; reads = Grammar.stmt-any; erased = refl; no_ills = refl })

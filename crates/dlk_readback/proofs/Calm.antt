@@ -61,7 +61,7 @@ module _ (d : Dots) (tokens : List Token) (calm : Calm d 0 (map (λ t. t.kind) t
       (is_good d t.kind ≡ true) × (level_behind (bracket_level before) t.kind ≤ 1200)
   found before behind t e =
       let c = calm_at d 0 (map (λ t. t.kind) before) t.kind (map (λ t. t.kind) behind)
-          (subst (Calm d 0) (ap (λ (l : List Token). map (λ t. t.kind) l) e ∙ kinds_of-append before (t ∷ behind)) calm) in
+      (subst (Calm d 0) (ap (λ (l : List Token). map (λ t. t.kind) l) e ∙ kinds_of-append before (t ∷ behind)) calm) in
       (c.0, subst (λ (n : ℕ). level_behind n t.kind ≤ 1200) (sym (level_of 0 before)) c.1)
 
   pub no_literal : (at : ℕ) → ¬ FirstAt IsLong tokens at
@@ -71,7 +71,7 @@ module _ (d : Dots) (tokens : List Token) (calm : Calm d 0 (map (λ t. t.kind) t
   no_nesting at f =
       let le = (found f.before f.behind f.token f.tokens_are).1 in
       let up : level_behind (bracket_level f.before) f.token.kind ≡ bracket_level f.before + 1 =
-          ap (λ (b : Bool). cond b (bracket_level f.before + 1) (cond (closes f.token.kind) (bracket_level f.before - 1) (bracket_level f.before))) f.is.1 in
+      ap (λ (b : Bool). cond b (bracket_level f.before + 1) (cond (closes f.token.kind) (bracket_level f.before - 1) (bracket_level f.before))) f.is.1 in
       absurd (omega (arith, le, up, f.is.0))
 
 -- the lexemes of good tokens are permitted
@@ -155,9 +155,11 @@ not_true false h = refl
 flat_level : (d : Dots) (n : ℕ) (k : TokenKind) → is_flat d k ≡ true → (is_good d k ≡ true) × (level_behind n k ≡ n)
 flat_level d n k h =
     let w = and_parts (is_good d k) (not (opens k) && not (closes k)) h in
-    let v = and_parts (not (opens k)) (not (closes k)) w.1 in
-    (w.0, ap (λ (b : Bool). cond b (n + 1) (cond (closes k) (n - 1) n)) (not_true (opens k) v.0)
-        ∙ ap (λ (b : Bool). cond b (n - 1) n) (not_true (closes k) v.1))
+    let v = and_parts (not (opens k)) (not (closes k)) w.1 in (
+      w.0,
+      ap (λ (b : Bool). cond b (n + 1) (cond (closes k) (n - 1) n)) (not_true (opens k) v.0)
+          ∙ ap (λ (b : Bool). cond b (n - 1) n) (not_true (closes k) v.1),
+    )
 
 pub flat_moves : {d : Dots} {most a : ℕ} (text : List Piece) → a ≤ most → flat d text ≡ true → Moves d most a a text
 flat_moves [] le h = no_moves
@@ -209,7 +211,7 @@ trails_moves {d} {most} (one k ∷ text) le h = record {
       let v = and_parts (is_good d k) (not (opens k) && closes k) w.0 in
       let u = and_parts (not (opens k)) (closes k) v.1 in
       let down : level_behind m k ≡ m - 1 = ap (λ (b : Bool). cond b (m + 1) (cond (closes k) (m - 1) m)) (not_true (opens k) u.0)
-          ∙ ap (λ (b : Bool). cond b (m - 1) m) u.1 in
+      ∙ ap (λ (b : Bool). cond b (m - 1) m) u.1 in
       let same : level_behind m k ≡ n + 0 = omega (arith, down, e) in
       let r = (flat_moves {d = d} {most = most} {a = 0} text (omega arith) w.1).go n (level_behind m k) same g in
       ((v.0, omega (arith, same), r.0), r.1);

@@ -68,8 +68,13 @@ BodyBack o kids = (n : ℕ) → Told (form_at (sort_of o) (level o)) (said n (bo
 
 pub apply_back : (s : Sym) (kids : Forest) → is_sym_of Func s ≡ true → sorts kids ≡ replicate s.arity Term → AllKids Back kids → BodyBack (op.Apply s) kids
 unfolding call_text
-apply_back s no_kids h e all n = record { phrase = Apply (Call n s.name none); reads = prim-nullary; erased =
-    ap (λ (y : Sym). node (op.Apply y) no_kids) (called Func s 0 h refl (args_of Back s.arity no_kids e all).1); no_ills = refl }
+apply_back s no_kids h e all n = record {
+  phrase = Apply (Call n s.name none);
+  reads = prim-nullary;
+  erased =
+      ap (λ (y : Sym). node (op.Apply y) no_kids) (called Func s 0 h refl (args_of Back s.arity no_kids e all).1);
+  no_ills = refl;
+}
 apply_back s (kid t rest) h e all n =
     let d = call_back Func s (op.Apply s) h refl (λ m. refl) refl refl t rest e all n (n + 1 + 1) in
     same_text (ap (λ (l : List Lexeme). Name n s.name ∷ Open ∷ l) (said-append (n + 1 + 1) (call_text (op.Apply s) (kid t rest)) (mark mark.CloseRound ∷ [])))
@@ -82,8 +87,13 @@ apply_back s (kid t rest) h e all n =
 
 pub holds_back : (s : Sym) (kids : Forest) → is_sym_of Pred s ≡ true → sorts kids ≡ replicate s.arity Term → AllKids Back kids → BodyBack (op.Holds s) kids
 unfolding call_text
-holds_back s no_kids h e all n = record { phrase = Holds (Call n s.name none); reads = atom-nullary; erased =
-    ap (λ (y : Sym). node (op.Holds y) no_kids) (called Pred s 0 h refl (args_of Back s.arity no_kids e all).1); no_ills = refl }
+holds_back s no_kids h e all n = record {
+  phrase = Holds (Call n s.name none);
+  reads = atom-nullary;
+  erased =
+      ap (λ (y : Sym). node (op.Holds y) no_kids) (called Pred s 0 h refl (args_of Back s.arity no_kids e all).1);
+  no_ills = refl;
+}
 holds_back s (kid t rest) h e all n =
     let d = call_back Pred s (op.Holds s) h refl (λ m. refl) refl refl t rest e all n (n + 1 + 1) in
     same_text (ap (λ (l : List Lexeme). Name n s.name ∷ Open ∷ l) (said-append (n + 1 + 1) (call_text (op.Holds s) (kid t rest)) (mark mark.CloseRound ∷ [])))
@@ -146,9 +156,9 @@ domain_system n items kids k h d e =
     let m = behind (n + 1) text + 1 in
     let c = k.holds 1 m in
     let first : said (n + 1) ((text ++ (mark mark.And ∷ shown_at 1 k.domain)) ++ mark mark.CloseBrace ∷ []) ≡ said (n + 1) text
-        ++ (Between And ∷ said m (shown_at 1 k.domain ++ mark mark.CloseBrace ∷ [])) =
-        ap (said (n + 1)) (append_assoc text (mark mark.And ∷ shown_at 1 k.domain) (mark mark.CloseBrace ∷ []))
-        ∙ said-append (n + 1) text (mark mark.And ∷ (shown_at 1 k.domain ++ mark mark.CloseBrace ∷ [])) in
+    ++ (Between And ∷ said m (shown_at 1 k.domain ++ mark mark.CloseBrace ∷ [])) =
+    ap (said (n + 1)) (append_assoc text (mark mark.And ∷ shown_at 1 k.domain) (mark mark.CloseBrace ∷ []))
+    ∙ said-append (n + 1) text (mark mark.And ∷ (shown_at 1 k.domain ++ mark mark.CloseBrace ∷ [])) in
     rw (e, first, said-append m (shown_at 1 k.domain) (mark mark.CloseBrace ∷ [])) (record {
       phrase = System n d.phrases c.phrase;
       reads = brace_stmt (brace-domain d.reads c.reads);
@@ -168,7 +178,7 @@ system_back items kids h e all w n =
     let k = system_kids Back items kids e all w in
     let d = all_items (n + 1) items (trees_in kids) h k.sides in
     same_text (ap (λ (l : List Piece). said n (mark mark.OpenBrace ∷ (l ++ mark mark.CloseBrace ∷ []))) (inside_is Back items kids k))
-        (go n k d (is_true (root k.domain)) refl)
+    (go n k d (is_true (root k.domain)) refl)
   where
     go : (n : ℕ) (k : SystemKids Back items kids) →
         ItemsTold (said (n + 1) (joined comma (item_texts items (texts_of (trees_in kids))))) items (sides_of items (trees_in kids)) → (b : Bool) →

@@ -44,7 +44,7 @@ flow_told n (node (op.System items) kids) w h =
     let d = all_items (n + 1) items (trees_in kids) w.0.parts_fit k.sides in
     let text = joined comma (item_texts items (texts_of (trees_in kids))) in
     let bare : shows_no_domain (root k.domain) ≡ true =
-        both_true (root k.domain) (ap (λ (u : Tree). is_true (root u)) (sym (last_is kids (sides_of items (trees_in kids)) k.domain k.all)) ∙ h) in
+    both_true (root k.domain) (ap (λ (u : Tree). is_true (root u)) (sym (last_is kids (sides_of items (trees_in kids)) k.domain k.all)) ∙ h) in
     let inside : system_inside items (trees_in kids) k.domain ≡ text = rw bare (append-nil text) in
     record {
       inside = said (n + 1) text;

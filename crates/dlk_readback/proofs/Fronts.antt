@@ -183,7 +183,7 @@ stops_digits (b ∷ bytes) s = go (is_digit b) (b == 46) s
 no_point : (s rest i f after : List ℕ) → are_digits s ≡ true → stops goes_on rest ≡ true → s ++ rest ≡ (i ++ 46 ∷ f) ++ after → are_digits i ≡ true → ⊥
 no_point s rest i f after h st e g =
     let same = same_rest is_digit s rest i (46 ∷ (f ++ after)) (e ∙ append_assoc i (46 ∷ f) after) (all_digits s h) (all_digits i g)
-        (stops_digits rest st) refl in
+    (stops_digits rest st) refl in
     let w : false ≡ true = ap (stops goes_on) (sym same) ∙ st in
     absurd cc
 
@@ -213,9 +213,9 @@ point_longest (b ∷ bs) t rest k h ht d st = longest ((b ∷ bs) ++ 46 ∷ t) r
         omega (arith, less, length-append (b ∷ bs) (46 ∷ t))
     by_shape l after e (point i f at g f-are) =
         let both : (b ∷ bs) ++ 46 ∷ (t ++ rest) ≡ i ++ 46 ∷ (f ++ after) = sym (append_assoc (b ∷ bs) (46 ∷ t) rest) ∙ e ∙ ap (λ (x : List ℕ). x ++ after) at
-            ∙ append_assoc i (46 ∷ f) after in
+        ∙ append_assoc i (46 ∷ f) after in
         let same : 46 ∷ (t ++ rest) ≡ 46 ∷ (f ++ after) =
-            same_rest is_digit (b ∷ bs) (46 ∷ (t ++ rest)) i (46 ∷ (f ++ after)) both (all_digits (b ∷ bs) h) (all_digits i g) refl refl in
+        same_rest is_digit (b ∷ bs) (46 ∷ (t ++ rest)) i (46 ∷ (f ++ after)) both (all_digits (b ∷ bs) h) (all_digits i g) refl refl in
         let tail : t ++ rest ≡ f ++ after = cc in
         let less = run_ends is_digit t rest f after tail (all_digits f f-are) (stops_digits rest st) in
         let front = run_ends is_digit (b ∷ bs) (46 ∷ (t ++ rest)) i (46 ∷ (f ++ after)) both (all_digits i g) refl in

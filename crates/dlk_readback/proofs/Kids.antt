@@ -107,8 +107,16 @@ system_kids K (Evolve x ∷ items) (kid t rest) e all w =
     let at : sort t ≡ Term = cc in
     let tail : sorts rest ≡ replicate (length (evolved items)) Term ++ Formula ∷ [] = cc in
     let k = system_kids K items rest tail all.1 w.1 in
-    record { domain = k.domain; sides = (subst (λ (u : Sort). K u t) at all.0, k.sides); domain_at = k.domain_at; text_at = k.text_at; all =
-        ap (λ (l : List Tree). t ∷ l) {y = sides_of items (trees_in rest) ++ k.domain ∷ []} k.all; holds = k.holds; made = k.made }
+    record {
+      domain = k.domain;
+      sides = (subst (λ (u : Sort). K u t) at all.0, k.sides);
+      domain_at = k.domain_at;
+      text_at = k.text_at;
+      all =
+          ap (λ (l : List Tree). t ∷ l) {y = sides_of items (trees_in rest) ++ k.domain ∷ []} k.all;
+      holds = k.holds;
+      made = k.made;
+    }
 
 is_true_is : (o : Op) → is_true o ≡ true → o ≡ op.True
 is_true_is op.True h = refl

@@ -62,20 +62,36 @@ pub record Left (make : Target → Sym) (k : Kind) (s : Sym) : Type 0 where
   pub symbol_is : make target ≡ s
 
 pub func_left : (s : Sym) → is_sym_of Func s ≡ true → Left function Func s
-func_left s h = record { target = Over s.name s.arity; reads = λ n. over_dots n s.name s.arity (arity_most Func s h (λ m. refl)); symbol_is =
-    called Func s s.arity h refl refl }
+func_left s h = record {
+  target = Over s.name s.arity;
+  reads = λ n. over_dots n s.name s.arity (arity_most Func s h (λ m. refl));
+  symbol_is =
+      called Func s s.arity h refl refl;
+}
 
 pub pred_left : (s : Sym) → is_sym_of Pred s ≡ true → Left predicate Pred s
-pred_left s h = record { target = Over s.name s.arity; reads = λ n. over_dots n s.name s.arity (arity_most Pred s h (λ m. refl)); symbol_is =
-    called Pred s s.arity h refl refl }
+pred_left s h = record {
+  target = Over s.name s.arity;
+  reads = λ n. over_dots n s.name s.arity (arity_most Pred s h (λ m. refl));
+  symbol_is =
+      called Pred s s.arity h refl refl;
+}
 
 pub unit_func_left : (s : Sym) → is_sym_of UnitFunc s ≡ true → Left function UnitFunc s
-unit_func_left s h = record { target = UnitOver s.name (space_of s.taboo); reads = λ n. unit_target n s.name s.taboo; symbol_is =
-    unit_symbol UnitFunc s h (λ m. refl) }
+unit_func_left s h = record {
+  target = UnitOver s.name (space_of s.taboo);
+  reads = λ n. unit_target n s.name s.taboo;
+  symbol_is =
+      unit_symbol UnitFunc s h (λ m. refl);
+}
 
 pub unit_pred_left : (s : Sym) → is_sym_of UnitPred s ≡ true → Left predicate UnitPred s
-unit_pred_left s h = record { target = UnitOver s.name (space_of s.taboo); reads = λ n. unit_target n s.name s.taboo; symbol_is =
-    unit_symbol UnitPred s h (λ m. refl) }
+unit_pred_left s h = record {
+  target = UnitOver s.name (space_of s.taboo);
+  reads = λ n. unit_target n s.name s.taboo;
+  symbol_is =
+      unit_symbol UnitPred s h (λ m. refl);
+}
 
 -- a symbol is one of its kind
 pub of_kind : (k : Kind) (s : Sym) → s.kind ≡ k → is_sym s ≡ true → is_sym_of k s ≡ true
@@ -100,7 +116,7 @@ dots_fine (suc k) le p f =
     let more = with_commas (dot_texts 1 k) in
     rw (append_assoc more (the_mark mark.CloseRound ∷ []) p)
     (before_fine mark.OpenRound _ refl (by_mark 46 refl)
-        (dot_fine 0 _ (omega arith) (later_fine 1 k (omega arith) (the_mark mark.CloseRound ∷ p) (alone_fine mark.CloseRound p refl f))))
+    (dot_fine 0 _ (omega arith) (later_fine 1 k (omega arith) (the_mark mark.CloseRound ∷ p) (alone_fine mark.CloseRound p refl f))))
 
 unit_fine : (y : Option (List ℕ)) → taboo_is_name y ≡ true → (p : List Piece) → Fine p → Fine (unit_brackets y ++ p)
 unit_fine None g p f = alone_fine mark.RoundBars p refl f
@@ -129,7 +145,7 @@ left_fine Prog s h p f = name_fine s.name _ (sym_parts Prog s h).name refl (alon
 left_fine Ode s h p f =
     let w = sym_parts Ode s h in
     rw (append_assoc (ode_brackets s.taboo) (the_mark mark.CloseBrace ∷ []) p)
-        (before_fine mark.OpenBrace _ refl (begins_name s.name _ w.name) (ode_fine s.name s.taboo w.name w.taboo_name p f))
+    (before_fine mark.OpenBrace _ refl (begins_name s.name _ w.name) (ode_fine s.name s.taboo w.name w.taboo_name p f))
 
 -- the tokens of a symbol by itself have no fault
 dots_level : (from k : ℕ) → Each (Moves Allowed 1 1 1) (dot_texts from k)
@@ -140,9 +156,9 @@ dots_even : (x : List ℕ) (k : ℕ) → Even Allowed 1 (word x ∷ dots k)
 dots_even x k =
     let text = joined comma (dot_texts 0 k) in
     moves-append (word x ∷ the_mark mark.OpenRound ∷ []) (text ++ the_mark mark.CloseRound ∷ [])
-        (leads_moves (word x ∷ the_mark mark.OpenRound ∷ []) (omega arith) refl)
+    (leads_moves (word x ∷ the_mark mark.OpenRound ∷ []) (omega arith) refl)
     (moves-append text (the_mark mark.CloseRound ∷ []) (joined_level Allowed 1 1 (omega arith) comma (dot_texts 0 k) refl (dots_level 0 k))
-        (trails_moves (the_mark mark.CloseRound ∷ []) (omega arith) refl))
+    (trails_moves (the_mark mark.CloseRound ∷ []) (omega arith) refl))
 
 unit_even : (x : List ℕ) (y : Option (List ℕ)) → Even Allowed 1 (word x ∷ unit_brackets y)
 unit_even x None = flat_moves (word x ∷ unit_brackets None) (omega arith) refl
@@ -159,9 +175,9 @@ left_even UnitFunc s = unit_even s.name s.taboo
 left_even UnitPred s = unit_even s.name s.taboo
 left_even Quant s =
     moves-append (word s.name ∷ the_mark mark.OpenBrace ∷ []) (one token.Hole ∷ the_mark mark.CloseBrace ∷ [])
-        (leads_moves (word s.name ∷ the_mark mark.OpenBrace ∷ []) (omega arith) refl)
+    (leads_moves (word s.name ∷ the_mark mark.OpenBrace ∷ []) (omega arith) refl)
     (moves-append (one token.Hole ∷ []) (the_mark mark.CloseBrace ∷ []) (flat_moves (one token.Hole ∷ []) (omega arith) refl)
-        (trails_moves (the_mark mark.CloseBrace ∷ []) (omega arith) refl))
+    (trails_moves (the_mark mark.CloseBrace ∷ []) (omega arith) refl))
 left_even Prog s = flat_moves (word s.name ∷ the_mark mark.Semicolon ∷ []) (omega arith) refl
 left_even Ode s =
     let text = word s.name ∷ ode_brackets s.taboo in

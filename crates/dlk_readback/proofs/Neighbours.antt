@@ -64,8 +64,10 @@ pub end_fine : Fine []
 end_fine = record { at = λ n. record { tokens = token kind.End n n ∷ []; splits = ended refl; kinds_are = refl } }
 
 pub space_fine : (p : List Piece) → Fine p → Fine (space ∷ p)
-space_fine p f = record { at = λ n. let d = f.at (n + 1) in
-    record { tokens = d.tokens; splits = a_space 32 (spell p) refl refl d.splits; kinds_are = d.kinds_are } }
+space_fine p f = record {
+  at = λ n. let d = f.at (n + 1) in
+      record { tokens = d.tokens; splits = a_space 32 (spell p) refl refl d.splits; kinds_are = d.kinds_are };
+}
 
 -- the bytes with which a text may begin, but letters, digits and `-`: ! ( ? [ \ { . _ <
 abbrev opens : ℕ → Bool
@@ -134,15 +136,35 @@ record FirstPlain (bytes : List ℕ) : Type 0 where
 
 first_plain : {bytes : List ℕ} → Begins bytes → FirstPlain bytes
 first_plain (by_letter {bytes = r} b h) =
-    record { byte = b; rest = r; bytes_are = refl; is =
-    plain is_letter b h (record { close = refl; star = refl; plus = refl; slash = refl; equal = refl; greater = refl; bar = refl; brace = refl }) }
+    record {
+      byte = b;
+      rest = r;
+      bytes_are = refl;
+      is =
+          plain is_letter b h (record { close = refl; star = refl; plus = refl; slash = refl; equal = refl; greater = refl; bar = refl; brace = refl });
+    }
 first_plain (by_digit {bytes = r} b h) =
-    record { byte = b; rest = r; bytes_are = refl; is =
-    plain is_digit b h (record { close = refl; star = refl; plus = refl; slash = refl; equal = refl; greater = refl; bar = refl; brace = refl }) }
-first_plain (by_mark {bytes = r} b h) = record { byte = b; rest = r; bytes_are = refl; is =
-    plain opens b h (record { close = refl; star = refl; plus = refl; slash = refl; equal = refl; greater = refl; bar = refl; brace = refl }) }
-first_plain (by_minus {bytes = r} d) = record { byte = 45; rest = r; bytes_are = refl; is =
-    record { no_close = refl; no_star = refl; no_plus = refl; no_slash = refl; no_equal = refl; no_greater = refl; no_bar = refl; no_brace = refl } }
+    record {
+      byte = b;
+      rest = r;
+      bytes_are = refl;
+      is =
+          plain is_digit b h (record { close = refl; star = refl; plus = refl; slash = refl; equal = refl; greater = refl; bar = refl; brace = refl });
+    }
+first_plain (by_mark {bytes = r} b h) = record {
+  byte = b;
+  rest = r;
+  bytes_are = refl;
+  is =
+      plain opens b h (record { close = refl; star = refl; plus = refl; slash = refl; equal = refl; greater = refl; bar = refl; brace = refl });
+}
+first_plain (by_minus {bytes = r} d) = record {
+  byte = 45;
+  rest = r;
+  bytes_are = refl;
+  is =
+      record { no_close = refl; no_star = refl; no_plus = refl; no_slash = refl; no_equal = refl; no_greater = refl; no_bar = refl; no_brace = refl };
+}
 
 -- no mark is longer than `<` before a text
 less_free : {bytes : List ℕ} → Begins bytes → clashes all_marks (60 ∷ bytes) 1 ≡ false
@@ -333,7 +355,7 @@ pub dot_fine : (n : ℕ) (p : List Piece) → n < 8 → Fine p → Fine (one (ki
 dot_fine n p h f =
     let e = eight_dots n h in
     token_fine (kind.Dot n) p (subst (λ (l : List ℕ). Longest (l ++ spell p) l (kind.Dot n)) (sym e)
-        (dot_longest (48 + n) (spell p) (kind.Dot n) (dot n h))) refl f
+    (dot_longest (48 + n) (spell p) (kind.Dot n) (dot n h))) refl f
 
 number_token : (n : Num) (rest : List ℕ) → Literal n → stops goes_on rest ≡ true →
     Longest (literal n ++ rest) (literal n) (kind.Number n) × (is_comment (literal n ++ rest) ≡ false)

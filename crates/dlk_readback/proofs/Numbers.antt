@@ -38,8 +38,11 @@ record Digits (n : ℕ) (ds : List ℕ) : Type 0 where
 decimal_digits : (n : ℕ) → n < 10 ^ 64 → Digits n (decimal n)
 decimal_digits = decimal_by_steps_wide Digits
     (λ n h. record { are = let d = digit n h in rw d refl; says = omega arith })
-    (λ n ds h d. record { are = digits_push ds (48 + n % 10) d.are (digit (n % 10) (omega arith)); says = value_push ds (n % 10) (n / 10) d.says
-        ∙ omega arith })
+    (λ n ds h d. record {
+      are = digits_push ds (48 + n % 10) d.are (digit (n % 10) (omega arith));
+      says = value_push ds (n % 10) (n / 10) d.says
+          ∙ omega arith;
+    })
 
 last_length : (w n : ℕ) → length (last_digits w n) ≡ w
 last_length zero n = refl
@@ -67,9 +70,9 @@ parts_say zero n h =
 parts_say (suc w) n h =
     let front = decimal (n / 10 ^ suc w) in
     let same : value (front ++ last_digits w (n / 10)) ≡ n / 10 = ap (λ (m : ℕ). value (decimal m ++ last_digits w (n / 10))) (sym (div-pow-suc n w))
-        ∙ parts_say w (n / 10) (omega arith) in
+    ∙ parts_say w (n / 10) (omega arith) in
     ap value (sym (append_assoc front (last_digits w (n / 10)) ((48 + n % 10) ∷ []))) ∙ value_push (front ++ last_digits w (n / 10)) (n % 10) (n / 10) same
-        ∙ omega arith
+    ∙ omega arith
 
 -- digits of which the last isn't a zero are kept
 kept : (ds : List ℕ) (d : ℕ) → (d == 48) ≡ false → trimmed (ds ++ d ∷ []) ≡ ds ++ d ∷ []
@@ -122,7 +125,7 @@ literal_is n h = by_scale (n.scale == 0) refl
         let d = decimal_digits n.digits wide in
         let le = length-decimal-le_wide 38 n.digits (omega arith) low wide in
         whole (decimal n.digits) (ap (λ (b : Bool).
-            cond b (decimal n.digits) (decimal (n.digits / 10 ^ n.scale) ++ (codes "." ++ last_digits n.scale n.digits))) e) d.are le
+        cond b (decimal n.digits) (decimal (n.digits / 10 ^ n.scale) ++ (codes "." ++ last_digits n.scale n.digits))) e) d.are le
         (λ i. record { digits = (ap value (append-nil (decimal n.digits)) ∙ d.says) i; scale = sym (eqb-true n.scale 0 e) i })
     by_scale false e =
         let f = last_digits n.scale n.digits in
@@ -133,10 +136,13 @@ literal_is n h = by_scale (n.scale == 0) refl
         let size = last_length n.scale n.digits in
         let less = div-le_self n.digits (10 ^ n.scale) in
         parts front f (ap (λ (b : Bool). cond b (decimal n.digits) (front ++ (codes "." ++ f))) e)
-            (decimal_digits (n.digits / 10 ^ n.scale) (omega (arith, less, wide))).are
+        (decimal_digits (n.digits / 10 ^ n.scale) (omega (arith, less, wide))).are
         (some_digits f (omega (arith, size, some)) (last_all n.scale n.digits)) (omega (arith, size, parts_length n.scale n.digits few low))
-        (λ i. record { digits = (ap (λ (l : List ℕ). value (front ++ l)) trim ∙ parts_say n.scale n.digits wide) i; scale =
-            (ap (λ (l : List ℕ). length l) trim ∙ size) i })
+        (λ i. record {
+          digits = (ap (λ (l : List ℕ). value (front ++ l)) trim ∙ parts_say n.scale n.digits wide) i;
+          scale =
+              (ap (λ (l : List ℕ). length l) trim ∙ size) i;
+        })
       where
         tail : (w : ℕ) → 0 < w → (n.digits % 10 == 0) ≡ false → trimmed (last_digits w n.digits) ≡ last_digits w n.digits
         tail zero some g = absurd (omega arith)

@@ -72,8 +72,14 @@ function_told n k x t f left d = rw f (go (is_formula_too t) refl)
         PairTold (said n (cond b (word (codes "term") ∷ space ∷ []) [] ++ (shown_as k x ++ the_mark mark.Becomes ∷ shown t))) x t
     go true e =
         let r = d (beyond (n + 1) k x) in
-        rw (said-pair (n + 1) k x t) (record { phrase = to (function left.target) r.phrase; reads =
-            pair-function refl (left.reads (n + 1)) r.reads; symbol_is = left.symbol_is; erased = r.erased; no_ills = r.no_ills })
+        rw (said-pair (n + 1) k x t) (record {
+          phrase = to (function left.target) r.phrase;
+          reads =
+              pair-function refl (left.reads (n + 1)) r.reads;
+          symbol_is = left.symbol_is;
+          erased = r.erased;
+          no_ills = r.no_ills;
+        })
     go false e =
         let r = d (beyond n k x) in
         rw (said-pair n k x t) (record {
@@ -88,20 +94,38 @@ predicate_told : (n : ℕ) (k : Kind) (x : Sym) (t : Tree) → is_function k ≡
     PairTold (said n (pair_text k x t)) x t
 predicate_told n k x t f left d =
     let r = d (beyond n k x) in
-    rw (f, said-pair n k x t) (record { phrase = to (predicate left.target) r.phrase; reads = pair-formula (left.reads n) r.reads; symbol_is =
-        left.symbol_is; erased = r.erased; no_ills = r.no_ills })
+    rw (f, said-pair n k x t) (record {
+      phrase = to (predicate left.target) r.phrase;
+      reads = pair-formula (left.reads n) r.reads;
+      symbol_is =
+          left.symbol_is;
+      erased = r.erased;
+      no_ills = r.no_ills;
+    })
 
 context_told : (n : ℕ) (x : Sym) (t : Tree) → is_sym_of Quant x ≡ true → TellsTree formula (shown t) t → PairTold (said n (pair_text Quant x t)) x t
 context_told n x t h d =
     let r = d (n + 1 + 1 + 1 + 1 + 1) in
-    record { phrase = to (symbol Quant x.name 0 Everywhere) r.phrase; reads = pair-context r.reads; symbol_is =
-        bare_symbol Quant x h (λ m. refl) refl; erased = r.erased; no_ills = r.no_ills }
+    record {
+      phrase = to (symbol Quant x.name 0 Everywhere) r.phrase;
+      reads = pair-context r.reads;
+      symbol_is =
+          bare_symbol Quant x h (λ m. refl) refl;
+      erased = r.erased;
+      no_ills = r.no_ills;
+    }
 
 program_told : (n : ℕ) (x : Sym) (t : Tree) → is_sym_of Prog x ≡ true → TellsTree prog (shown t) t → PairTold (said n (pair_text Prog x t)) x t
 program_told n x t h d =
     let r = d (n + 1 + 1 + 1) in
-    record { phrase = to (symbol Prog x.name 0 Everywhere) r.phrase; reads = pair-program r.reads; symbol_is = bare_symbol Prog x h (λ m. refl) refl; erased =
-        r.erased; no_ills = r.no_ills }
+    record {
+      phrase = to (symbol Prog x.name 0 Everywhere) r.phrase;
+      reads = pair-program r.reads;
+      symbol_is = bare_symbol Prog x h (λ m. refl) refl;
+      erased =
+          r.erased;
+      no_ills = r.no_ills;
+    }
 
 ode_told : (n : ℕ) (x : Sym) (t : Tree) → is_sym_of Ode x ≡ true → is_system_without_domain t ≡ true → WellMade t → PairTold (said n (pair_text Ode x t)) x t
 ode_told n x t h f w = go n x.name x.taboo (unit_symbol Ode x h (λ m. refl))
@@ -110,13 +134,25 @@ ode_told n x t h f w = go n x.name x.taboo (unit_symbol Ode x h (λ m. refl))
         PairTold (said n ((the_mark mark.OpenBrace ∷ word name ∷ (ode_brackets taboo ++ the_mark mark.CloseBrace ∷ [])) ++ the_mark mark.Becomes ∷ shown t)) x t
     go n name None e =
         let r = flow_told (n + 1 + 1 + 1 + 1) t w f in
-        rw r.said_is (record { phrase = to (symbol Ode name 0 Everywhere) (System (n + 1 + 1 + 1 + 1) r.items Truth); reads = pair-flow r.reads; symbol_is =
-            e; erased = r.erased; no_ills = r.no_ills })
+        rw r.said_is (record {
+          phrase = to (symbol Ode name 0 Everywhere) (System (n + 1 + 1 + 1 + 1) r.items Truth);
+          reads = pair-flow r.reads;
+          symbol_is =
+              e;
+          erased = r.erased;
+          no_ills = r.no_ills;
+        })
     go n name (Some y) e =
         let m = n + 1 + 1 + 1 + 1 + 1 + 1 + 1 in
         let r = flow_told m t w f in
-        rw r.said_is (record { phrase = to (symbol Ode name 0 (Except y)) (System m r.items Truth); reads = pair-flow-except r.reads; symbol_is = e; erased =
-            r.erased; no_ills = r.no_ills })
+        rw r.said_is (record {
+          phrase = to (symbol Ode name 0 (Except y)) (System m r.items Truth);
+          reads = pair-flow-except r.reads;
+          symbol_is = e;
+          erased =
+              r.erased;
+          no_ills = r.no_ills;
+        })
 
 -- what is said of the sorts
 same_sort : (s r : Sort) → sort_eq s r ≡ true → s ≡ r
@@ -185,9 +221,9 @@ later_pairs n s done (p ∷ pairs) all d =
     let text = shown_pair p in
     let more = flat_map (λ q. comma ++ shown_pair q) pairs in
     let next = later_pairs (behind (n + 1) text) (s ++ Comma ∷ said (n + 1) text) (done ++ p ∷ []) pairs all.1
-        (more_pairs {p = p} d (pair_told (n + 1) p all.0)) in
+    (more_pairs {p = p} d (pair_told (n + 1) p all.0)) in
     rw (said-append (n + 1) text more) (subst₂ (λ (l : List Lexeme) (ps : List Pair). PairsTold l ps)
-        (append_assoc s (Comma ∷ said (n + 1) text) (said (behind (n + 1) text) more)) (append_assoc done (p ∷ []) pairs) next)
+    (append_assoc s (Comma ∷ said (n + 1) text) (said (behind (n + 1) text) more)) (append_assoc done (p ∷ []) pairs) next)
 
 -- the lexemes are a substitution
 record SubstitutionTold (s : List Lexeme) (pairs : List Pair) : Type 0 where
@@ -202,7 +238,7 @@ pairs_told n (p ∷ pairs) all =
     let text = shown_pair p in
     let more = flat_map (λ q. comma ++ shown_pair q) pairs in
     let d : PairsTold (said n (text ++ more)) (p ∷ pairs) =
-        rw (said-append n text more) (later_pairs (behind n text) (said n text) (p ∷ []) pairs all.1 (one_pair {p = p} (pair_told n p all.0))) in
+    rw (said-append n text more) (later_pairs (behind n text) (said n text) (p ∷ []) pairs all.1 (one_pair {p = p} (pair_told n p all.0))) in
     record { phrases = d.phrases; reads = subst-pairs d.reads; pairs_are = d.pairs_are; no_ills = d.no_ills }
 
 -- the bytes of a pair are its tokens
@@ -235,7 +271,7 @@ pair_even p r = go (is_function p.sym.kind && is_formula_too p.by)
     rest = moves-append (shown_as p.sym.kind p.sym) (the_mark mark.Becomes ∷ shown p.by)
         (moves_more (shown_as p.sym.kind p.sym) (omega arith) (left_even p.sym.kind p.sym))
         (moves-append (the_mark mark.Becomes ∷ []) (shown p.by) (flat_moves (the_mark mark.Becomes ∷ []) (omega arith) refl)
-            (moves_more (shown p.by) r.limits.shallow (shown_even Allowed p.by r.well_made (allowed_clean p.by))))
+        (moves_more (shown p.by) r.limits.shallow (shown_even Allowed p.by r.well_made (allowed_clean p.by))))
 
     go : (b : Bool) → Even Allowed 1000 (cond b (word (codes "term") ∷ space ∷ []) [] ++ (shown_as p.sym.kind p.sym ++ the_mark mark.Becomes ∷ shown p.by))
     go true = moves-append (word (codes "term") ∷ space ∷ []) (shown_as p.sym.kind p.sym ++ the_mark mark.Becomes ∷ shown p.by)
@@ -271,7 +307,7 @@ pairs_text pairs given =
     let f = (pairs_fine pairs all).at 0 in
     let d = pairs_told 0 pairs all in
     let trees : map erase (replacements d.phrases) ≡ map (λ (p : Pair). p.by) pairs = replacements-erased d.phrases
-        ∙ ap (map (λ (p : Pair). p.by)) d.pairs_are in
+    ∙ ap (map (λ (p : Pair). p.by)) d.pairs_are in
     record {
       tokens = f.tokens;
       splits = f.splits;

@@ -92,27 +92,27 @@ later_items n s done (Const c ∷ items) terms ts h all d =
     let text = item_text (Const c) (texts_of ts) in
     let more = flat_map (λ x. comma ++ x) (item_texts items (texts_of ts)) in
     let next = later_items (behind (n + 1) text) (s ++ Comma ∷ said (n + 1) text) (done ++ Const c ∷ []) items (terms ++ []) ts w.1 all
-        (more_items d (const_back (n + 1) c w.0 (texts_of ts))) in
+    (more_items d (const_back (n + 1) c w.0 (texts_of ts))) in
     let said-is : (s ++ Comma ∷ said (n + 1) text) ++ said (behind (n + 1) text) more ≡ s ++ Comma ∷ said (n + 1) (text ++ more) =
-        append_assoc s (Comma ∷ said (n + 1) text) (said (behind (n + 1) text) more)
-        ∙ ap (λ (l : List Lexeme). s ++ Comma ∷ l) (sym (said-append (n + 1) text more)) in
+    append_assoc s (Comma ∷ said (n + 1) text) (said (behind (n + 1) text) more)
+    ∙ ap (λ (l : List Lexeme). s ++ Comma ∷ l) (sym (said-append (n + 1) text more)) in
     subst (λ (l : List Lexeme). ItemsTold l (done ++ Const c ∷ items) (terms ++ sides_of items ts)) said-is
-        (subst₂ (λ (l : List OdeItem) (us : List Tree).
-        ItemsTold ((s ++ Comma ∷ said (n + 1) text) ++ said (behind (n + 1) text) more) l (us ++ sides_of items ts)) (append_assoc done (Const c ∷ []) items)
-        (append-nil terms) next)
+    (subst₂ (λ (l : List OdeItem) (us : List Tree).
+    ItemsTold ((s ++ Comma ∷ said (n + 1) text) ++ said (behind (n + 1) text) more) l (us ++ sides_of items ts)) (append_assoc done (Const c ∷ []) items)
+    (append-nil terms) next)
 later_items n s done (Evolve x ∷ items) terms [] h all d = absurd all
 later_items n s done (Evolve x ∷ items) terms (t ∷ ts) h all d =
     let w = and_parts (is_item (Evolve x)) (list_all is_item items) h in
     let text = item_text (Evolve x) (texts_of (t ∷ ts)) in
     let more = flat_map (λ x. comma ++ x) (item_texts items (texts_of ts)) in
     let next = later_items (behind (n + 1) text) (s ++ Comma ∷ said (n + 1) text) (done ++ Evolve x ∷ []) items (terms ++ t ∷ []) ts w.1 all.1
-        (more_items d (evolve_back (n + 1) x t (all.0 1) (texts_of ts))) in
+    (more_items d (evolve_back (n + 1) x t (all.0 1) (texts_of ts))) in
     let said-is : (s ++ Comma ∷ said (n + 1) text) ++ said (behind (n + 1) text) more ≡ s ++ Comma ∷ said (n + 1) (text ++ more) =
-        append_assoc s (Comma ∷ said (n + 1) text) (said (behind (n + 1) text) more)
-        ∙ ap (λ (l : List Lexeme). s ++ Comma ∷ l) (sym (said-append (n + 1) text more)) in
+    append_assoc s (Comma ∷ said (n + 1) text) (said (behind (n + 1) text) more)
+    ∙ ap (λ (l : List Lexeme). s ++ Comma ∷ l) (sym (said-append (n + 1) text more)) in
     subst (λ (l : List Lexeme). ItemsTold l (done ++ Evolve x ∷ items) (terms ++ t ∷ sides_of items ts)) said-is
-        (subst₂ (λ (l : List OdeItem) (us : List Tree). ItemsTold ((s ++ Comma ∷ said (n + 1) text) ++ said (behind (n + 1) text) more) l us)
-        (append_assoc done (Evolve x ∷ []) items) (append_assoc terms (t ∷ []) (sides_of items ts)) next)
+    (subst₂ (λ (l : List OdeItem) (us : List Tree). ItemsTold ((s ++ Comma ∷ said (n + 1) text) ++ said (behind (n + 1) text) more) l us)
+    (append_assoc done (Evolve x ∷ []) items) (append_assoc terms (t ∷ []) (sides_of items ts)) next)
 
 -- the items of a system
 pub items_back : (n : ℕ) (item : OdeItem) (items : List OdeItem) (ts : List Tree) → list_all is_item (item ∷ items) ≡ true →
@@ -129,4 +129,4 @@ items_back n (Evolve x) items (t ∷ ts) h all =
     let text = item_text (Evolve x) (texts_of (t ∷ ts)) in
     let more = flat_map (λ x. comma ++ x) (item_texts items (texts_of ts)) in
     rw (said-append n text more) (later_items (behind n text) (said n text) (Evolve x ∷ []) items (t ∷ []) ts w.1 all.1
-        (one_item (evolve_back n x t (all.0 1) (texts_of ts))))
+    (one_item (evolve_back n x t (all.0 1) (texts_of ts))))

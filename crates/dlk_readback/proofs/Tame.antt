@@ -190,7 +190,7 @@ module _ (d : Dots) (most a : ℕ) (le : a ≤ most) where
       let n = length (evolved items) in
       let domain = get_or kids n (node op.True no_kids) in
       moves-append (joined sep (item_texts items xs)) (domain_text domain (get_or xs n []))
-          (joined_level sep (item_texts items xs) s (items_level items xs all)) (domain_level domain (get_or xs n []) (some_level xs n all))
+      (joined_level sep (item_texts items xs) s (items_level items xs all)) (domain_level domain (get_or xs n []) (some_level xs n all))
 
 -- a text that leads nowhere, and for which `most` levels suffice
 abbrev pub Even : Dots → ℕ → List Piece → Type 0
@@ -241,8 +241,8 @@ node_even d o kids most n fits (plain h g k) le all = go (nat_lt (level o) n)
     text =
         let middle = inside (items_of o) (between o) (trees_in kids) (shown_kids o 0 kids) in
         moves-append (opening o) (middle ++ closing o) (flat_moves (opening o) (omega arith) h)
-            (moves-append middle (closing o) (inside_level d most 0 (omega arith) (items_of o) (between o) (trees_in kids) (shown_kids o 0 kids) g all)
-            (flat_moves (closing o) (omega arith) k))
+        (moves-append middle (closing o) (inside_level d most 0 (omega arith) (items_of o) (between o) (trees_in kids) (shown_kids o 0 kids) g all)
+        (flat_moves (closing o) (omega arith) k))
 
     go : (b : Bool) → Even d (most + 1) (bracketed b (sort_of o) (body o kids))
     go true = in_brackets d most (sort_of o) (body o kids) text
@@ -251,13 +251,13 @@ node_even d o kids most n fits (around h g k up) le all =
     let middle = inside (items_of o) (between o) (trees_in kids) (shown_kids o 0 kids) in
     rw (unbracketed o n le up)
     (moves-append (opening o) (middle ++ closing o) (leads_moves (opening o) (omega arith) h)
-        (moves-append middle (closing o) (inside_level d (most + 1) 1 (omega arith) (items_of o) (between o) (trees_in kids) (shown_kids o 0 kids) g
-        (each_up d most (shown_kids o 0 kids) all)) (trails_moves (closing o) (omega arith) k)))
+    (moves-append middle (closing o) (inside_level d (most + 1) 1 (omega arith) (items_of o) (between o) (trees_in kids) (shown_kids o 0 kids) g
+    (each_up d most (shown_kids o 0 kids) all)) (trails_moves (closing o) (omega arith) k)))
 node_even d o kids most n fits (modal h g k up none s u is) le all =
     let middle = inside None (between o) (trees_in kids) (shown_kids o 0 kids) in
     let text : Even d (most + 1) (opening o ++ (middle ++ closing o)) =
-        moves-append (opening o) (middle ++ closing o) (leads_moves (opening o) (omega arith) h)
-        (moves-append middle (closing o) (modal_inside d o kids most s u (fits.kids_fit ∙ is) g all) (flat_moves (closing o) (omega arith) k)) in
+    moves-append (opening o) (middle ++ closing o) (leads_moves (opening o) (omega arith) h)
+    (moves-append middle (closing o) (modal_inside d o kids most s u (fits.kids_fit ∙ is) g all) (flat_moves (closing o) (omega arith) k)) in
     rw (unbracketed o n le up, none) text
 
 mutual

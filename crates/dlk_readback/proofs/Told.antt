@@ -42,8 +42,13 @@ last_kid n o x = rw (append-nil x, append-nil x, said-append n o x) refl
 pub two_kids : (n : ℕ) (o x m y : List Piece) →
     said n (o ++ ((x ++ ((m ++ y) ++ [])) ++ [])) ≡ said n o
     ++ (said (behind n o) x ++ (said (behind (behind n o) x) m ++ said (behind (behind (behind n o) x) m) y))
-two_kids n o x m y = rw (append-nil (m ++ y), append-nil (x ++ (m ++ y)), said-append n o (x ++ (m ++ y)), said-append (behind n o) x (m ++ y),
-    said-append (behind (behind n o) x) m y) refl
+two_kids n o x m y = rw (
+  append-nil (m ++ y),
+  append-nil (x ++ (m ++ y)),
+  said-append n o (x ++ (m ++ y)),
+  said-append (behind n o) x (m ++ y),
+  said-append (behind (behind n o) x) m y,
+) refl
 
 -- the lexemes are a text of the form, and the tree is what it says
 pub record Told (f : Nonterminal) (s : List Lexeme) (t : Tree) : Type 0 where
@@ -120,10 +125,10 @@ module _ {f : Nonterminal} (text : Tree → List Piece) (sep : List Piece) (comm
       let more = flat_map (λ u. sep ++ text u) ts in
       let said-is : said n ((sep ++ text t) ++ more) ≡ Comma ∷ (said m (text t) ++ said (behind m (text t)) more) =
       ap (said n) (append_assoc sep (text t) more) ∙ said-append n sep (text t ++ more) ∙ ap (λ (l : List Lexeme). l ++ said m (text t ++ more)) (comma n)
-          ∙ ap (λ (l : List Lexeme). Comma ∷ l) (said-append m (text t) more) in
+      ∙ ap (λ (l : List Lexeme). Comma ∷ l) (said-append m (text t) more) in
       let next = later_listed (behind m (text t)) (s ++ Comma ∷ said m (text t)) (done ++ t ∷ []) ts all.1 (more_listed d (all.0 m)) in
       rw said-is (subst₂ (λ (l : List Lexeme) (us : List Tree). ListTold f l us) (append_assoc s (Comma ∷ said m (text t)) (said (behind m (text t)) more))
-          (append_assoc done (t ∷ []) ts) next)
+      (append_assoc done (t ∷ []) ts) next)
 
   -- texts with commas between are a list
   pub listed : (n : ℕ) (t : Tree) (ts : List Tree) → Each (λ u. TellsTree f (text u) u) (t ∷ ts) → ListTold f (said n (join_by text sep (t ∷ ts))) (t ∷ ts)

@@ -47,8 +47,10 @@ known t f l = record {
 
 all_known : (ts : List Tree) → All IsFormula ts → All IsWithinLimits ts → Each Known ts
 all_known [] f l = tt
-all_known (t ∷ ts) f l = (known t (All-head IsFormula t ts f) (All-head IsWithinLimits t ts l),
-    all_known ts (All-tail IsFormula t ts f) (All-tail IsWithinLimits t ts l))
+all_known (t ∷ ts) f l = (
+  known t (All-head IsFormula t ts f) (All-head IsWithinLimits t ts l),
+  all_known ts (All-tail IsFormula t ts f) (All-tail IsWithinLimits t ts l),
+)
 
 abbrev comma : List Piece
 comma = the_mark mark.Comma ∷ space ∷ []
@@ -131,15 +133,15 @@ sequent_text s w l r =
     let back = the_mark mark.Turnstile ∷ right_side s.succ in
     let f = (left_fine s.ante back left (alone_fine mark.Turnstile (right_side s.succ) refl (right_fine s.succ right))).at 0 in
     let even : Even Refused 1000 (front ++ back) =
-        moves-append front back (left_even s.ante left)
-        (moves-append (the_mark mark.Turnstile ∷ []) (right_side s.succ) (flat_moves (the_mark mark.Turnstile ∷ []) (omega arith) refl)
-        (right_even s.succ right)) in
+    moves-append front back (left_even s.ante left)
+    (moves-append (the_mark mark.Turnstile ∷ []) (right_side s.succ) (flat_moves (the_mark mark.Turnstile ∷ []) (omega arith) refl)
+    (right_even s.succ right)) in
     let a = left_told 0 s.ante left in
     let b = right_told (behind 0 front + 1) s.succ right in
     let said-is : lexemes f.tokens ≡ said 0 front ++ Turnstile ∷ said (behind 0 front + 1) (right_side s.succ) = lexemes-said f ∙ said-append 0 front back in
     let trees : map erase (phrases_in a.phrases ++ phrases_in b.phrases) ≡ s.ante ++ s.succ = map-append erase (phrases_in a.phrases) (phrases_in b.phrases)
     ∙ ap (λ (ts : List Tree). ts ++ map erase (phrases_in b.phrases)) (phrases-erased a.phrases ∙ a.erased)
-        ∙ ap (λ (ts : List Tree). s.ante ++ ts) (phrases-erased b.phrases ∙ b.erased) in
+    ∙ ap (λ (ts : List Tree). s.ante ++ ts) (phrases-erased b.phrases ∙ b.erased) in
     let no_ills : flat_map ills (phrases_in a.phrases ++ phrases_in b.phrases) ≡ [] = flat_map-append ills (phrases_in a.phrases) (phrases_in b.phrases)
     ∙ ap (λ (ns : List ℕ). ns ++ flat_map ills (phrases_in b.phrases)) (phrases-ills a.phrases ∙ a.no_ills) ∙ phrases-ills b.phrases ∙ b.no_ills in
     record {
@@ -150,9 +152,9 @@ sequent_text s w l r =
           (λ i. record { ante = a.erased i; succ = b.erased i })
           (calm_tokens Refused 1000 (omega arith) even f) no_ills
           (subst (Each (λ t. size t ≤ most_nodes)) (sym trees)
-              (each_append (λ t. size t ≤ most_nodes) s.ante s.succ (each_map Known (λ t. size t ≤ most_nodes) s.ante (λ t k. k.small) left)
-              (each_map Known (λ t. size t ≤ most_nodes) s.succ (λ t k. k.small) right)))
+          (each_append (λ t. size t ≤ most_nodes) s.ante s.succ (each_map Known (λ t. size t ≤ most_nodes) s.ante (λ t k. k.small) left)
+          (each_map Known (λ t. size t ≤ most_nodes) s.succ (λ t k. k.small) right)))
           (subst (Each (λ t. depth t ≤ greatest_depth)) (sym trees)
-              (each_append (λ t. depth t ≤ greatest_depth) s.ante s.succ (each_map Known (λ t. depth t ≤ greatest_depth) s.ante (λ t k. k.shallow) left)
-              (each_map Known (λ t. depth t ≤ greatest_depth) s.succ (λ t k. k.shallow) right)));
+          (each_append (λ t. depth t ≤ greatest_depth) s.ante s.succ (each_map Known (λ t. depth t ≤ greatest_depth) s.ante (λ t k. k.shallow) left)
+          (each_map Known (λ t. depth t ≤ greatest_depth) s.succ (λ t k. k.shallow) right)));
     }

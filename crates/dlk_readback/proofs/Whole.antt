@@ -67,7 +67,7 @@ module _ {P R : Type 0} (G : List Lexeme → P → Type 0) (parts : P → List P
   pub is_read : (unique : (p q : P) → G (lexemes tokens) p → G (lexemes tokens) q → p ≡ q) (phrase : P) (r : R) → G (lexemes tokens) phrase →
       value phrase ≡ r → Calm d 0 (map (λ t. t.kind) tokens)
       → flat_map ills (parts phrase) ≡ [] → Each (λ t. size t ≤ most_nodes) (map erase (parts phrase)) →
-          Each (λ t. depth t ≤ greatest_depth) (map erase (parts phrase)) → IsRead G parts d tokens value r
+      Each (λ t. depth t ≤ greatest_depth) (map erase (parts phrase)) → IsRead G parts d tokens value r
   is_read unique phrase r reads value_is calm no_ills small shallow = record { phrase = phrase; says = says; value_is = value_is; no_fault = against }
     where
       says : Says d G (lexemes tokens) phrase
@@ -80,7 +80,7 @@ module _ {P R : Type 0} (G : List Lexeme → P → Type 0) (parts : P → List P
           FirstPast measure limit (map erase (parts p)) n → ⊥
       past measure limit n p all s f =
           let le = none_past measure limit f.before f.behind f.tree
-              (subst (λ (ts : List Tree). Each (λ t. measure t ≤ limit) ts) (ap (λ (q : P). map erase (parts q)) (sym (same p s)) ∙ f.trees_are) all) in
+          (subst (λ (ts : List Tree). Each (λ t. measure t ≤ limit) ts) (ap (λ (q : P). map erase (parts q)) (sym (same p s)) ∙ f.trees_are) all) in
           omega (arith, le, f.past)
 
       against : (why : ReadFault) → ¬ SpeaksAgainst G parts d tokens why
@@ -124,7 +124,7 @@ module _ (d : Dots) (t : Tree) (r : IsReadable d t) where
         reads = is_read (grammar form) itself d f.tokens erase (one_of_form form (lexemes f.tokens)) told.phrase t
             (read f.tokens told.phrase told.reads told.erased) told.erased calm
             (ap (λ (l : List ℕ). l ++ []) told.no_ills) (subst (λ (u : Tree). size u ≤ most_nodes) (sym told.erased) r.limits.small, tt)
-                (subst (λ (u : Tree). depth u ≤ greatest_depth) (sym told.erased) r.limits.shallow, tt);
+            (subst (λ (u : Tree). depth u ≤ greatest_depth) (sym told.erased) r.limits.shallow, tt);
       }
 
   pub tree_text : TreeText (form_of (sort_in t)) d (spell (shown t)) t

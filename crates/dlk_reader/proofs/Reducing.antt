@@ -39,7 +39,7 @@ pub closed_one : (n : ℕ) (T : List Part) (q : Piece) (x : OpenPart) (items : L
 closed_one n T q x items out new l m k t is at j ki ko =
     let w = taken n T x items t in
     let at' : out ≡ stack_code w.1 ++ (part_code w.0 ++ piece_code q) = at ∙ ap (λ (S : List Part). stack_code S ++ piece_code q) w.2
-        ∙ append_assoc (stack_code w.1) (part_code w.0) (piece_code q) in
+    ∙ append_assoc (stack_code w.1) (part_code w.0) (piece_code q) in
     let a = agrees_ok (Joins new (stack_code w.1)) m (join w.0 q) (j w.0 q (stack_code w.1) w.3 is at') in
     (w.1, a.0, record { last = a.2.last; lists = record { parts = ki ∙ w.4; out = ko ∙ a.2.out } }, w.5 q ∙ ap (λ (o : Option Piece). o >>= reduce n w.1) a.1)
 
@@ -49,7 +49,7 @@ pub closed_err : (n : ℕ) (T : List Part) (q : Piece) (x : OpenPart) (items : L
 closed_err n T q x items out new l k f t is at j =
     let w = taken n T x items t in
     let at' : out ≡ stack_code w.1 ++ (part_code w.0 ++ piece_code q) = at ∙ ap (λ (S : List Part). stack_code S ++ piece_code q) w.2
-        ∙ append_assoc (stack_code w.1) (part_code w.0) (piece_code q) in
+    ∙ append_assoc (stack_code w.1) (part_code w.0) (piece_code q) in
     rw (w.5 q) (agrees_err (Joins new (stack_code w.1)) (Reduces k) f (join w.0 q) (reduce n w.1) (j w.0 q (stack_code w.1) w.3 is at'))
 
 pub all_closed : (n : ℕ) (T : List Part) (q : Piece) (items : List OpenPart) (l : Last) (k : Stack) → TakesAbove n T None items → IsLast l q →

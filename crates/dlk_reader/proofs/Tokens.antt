@@ -92,7 +92,7 @@ module _ {R V : Type 0} (comes : R → List Lexeme → Outcome V → Type 0) (fi
         answer = λ behind g.
             let none : 0 + length taken ≡ length taken = omega arith in
             let stops = subst (λ (m : ℕ). comes first (lexemes (taken ++ t ∷ behind)) (Stopped m)) none
-                (on behind (Stopped 0) (step (lexemes_from (length taken + 1) behind))) in
+            (on behind (Stopped 0) (step (lexemes_from (length taken + 1) behind))) in
             let same = append_assoc taken (t ∷ []) behind in (
               length taken,
               subst (λ (l : List Token). comes first (lexemes l) (Stopped (length taken))) (sym same) stops,

@@ -19,7 +19,7 @@ last_place xs x = omega (arith, length-append xs (x ∷ []))
 last_is : {A : Type 0} (xs : List A) (x : A) → slice_get (xs ++ x ∷ []) (length (xs ++ x ∷ []) - 1) ≡ Some x
 last_is xs x =
     ap (slice_get (xs ++ x ∷ [])) (last_place xs x) ∙ slice_get-get_or (xs ++ x ∷ []) (length xs) x (omega (arith, length-append xs (x ∷ [])))
-        ∙ ap Some (get_or-append_seam xs x [] x)
+    ∙ ap Some (get_or-append_seam xs x [] x)
 
 pub top_is : (S : List Part) (items : List OpenPart) → items ≡ shapes S → slice_get items (length items - 1) ≡ top S
 top_is [] items e = ap (λ (l : List OpenPart). slice_get l (length l - 1)) e
@@ -33,9 +33,9 @@ pops (y ∷ S) items rest n r e m none value left =
     let place : n - 1 ≡ length (shapes S) = omega (arith, m, ap length e, length-append (shapes S) (shape y ∷ [])) in
     let some : 0 < n = omega (arith, m, ap length e, length-append (shapes S) (shape y ∷ [])) in
     let value-is : get_or items (n - 1) (shape y) ≡ shape y = ap (λ (l : List OpenPart). get_or l (n - 1) (shape y)) e
-        ∙ ap (λ (i : ℕ). get_or (shapes S ++ shape y ∷ []) i (shape y)) place ∙ get_or-append_seam (shapes S) (shape y) [] (shape y) in
+    ∙ ap (λ (i : ℕ). get_or (shapes S ++ shape y ∷ []) i (shape y)) place ∙ get_or-append_seam (shapes S) (shape y) [] (shape y) in
     let rest-is : take (n - 1) items ≡ shapes S = ap (take (n - 1)) e ∙ ap (λ (i : ℕ). take i (shapes S ++ shape y ∷ [])) place
-        ∙ take-append_seam (shapes S) (shape y ∷ []) in
+    ∙ take-append_seam (shapes S) (shape y ∷ []) in
     (value (shape y) some ∙ ap Some value-is, left ∙ rest-is)
 
 pub sort_at_top : (g : Sort) (S : List Part) (items : List OpenPart) (x : OpenPart) (r : Sort) → items ≡ shapes S →

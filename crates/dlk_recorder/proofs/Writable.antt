@@ -169,7 +169,7 @@ module _ (rows : List Provable) (all : All IsLimited rows) (few : length rows < 
       let old = At_All IsLimited rows fact q all at_fact in
       let sequent = At_All IsLimitedSequent q.goals goal s old.goals at_goal in
       let new = All-behind IsLimitedSequent (take (goal - 1) q.goals) premises
-          (All-front IsLimitedSequent (take (goal - 1) q.goals ++ premises) (drop goal q.goals) limited.goals) in
+      (All-front IsLimitedSequent (take (goal - 1) q.goals ++ premises) (drop goal q.goals) limited.goals) in
       (fact_number fact q at_fact, goal_number s q goal old at_goal, rule_writable s sequent rule premises new proper made)
   given_writable _ _ (merge fact goal by q r new at_fact at_by at_goal are) within limited symbols =
       (fact_number fact q at_fact, goal_number r.conclusion q goal (At_All IsLimited rows fact q all at_fact) at_goal, fact_number by r at_by)

@@ -138,14 +138,14 @@ module _ (Says : Format) (one_said : (before : List (List ℕ)) (line : List ℕ
       after_steps steps (line ∷ []) rows last (accepted rows last) is (inr (EndsFile, ends, at_end_whole (length steps) rows last some))
   becomes_ends _ _ (ended {steps} {rows} {last} is) =
       subst (λ l. Ends l [] [] 0 (bad (length steps + 1) why.NoEnd)) (append-nil steps)
-          (after_steps steps [] rows last (bad (length steps + 1) why.NoEnd) is refl)
+      (after_steps steps [] rows last (bad (length steps + 1) why.NoEnd) is refl)
   becomes_ends _ _ (unread {steps} {rows} {last} {line} after is none) =
       after_steps steps (line ∷ after) rows last (bad (length steps + 1) why.Malformed) is (inl (none, refl))
   becomes_ends _ _ (done_first {steps} {last} {line} after is ends) =
       after_steps steps (line ∷ after) [] last (bad (length steps + 1) why.Malformed) is (inr (EndsFile, ends, at_end_first (length steps) last after))
   becomes_ends _ _ (done_before {steps} {rows} {last} {line} next after is some ends) =
       after_steps steps (line ∷ next ∷ after) rows last (bad (length steps + 2) why.Malformed) is
-          (inr (EndsFile, ends, at_end_before (length steps) rows last next after some))
+      (inr (EndsFile, ends, at_end_before (length steps) rows last next after some))
   becomes_ends _ _ (misnumbered {steps} {rows} {last} {line} after is other) =
       after_steps steps (line ∷ after) rows last (bad (length steps + 1) why.WrongNumber) is (inr (HasOtherNumber, other, refl))
   becomes_ends _ _ (faulty {steps} {rows} {last} {line} {step} {reason} after is says fault) =

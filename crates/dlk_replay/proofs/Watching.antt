@@ -203,7 +203,7 @@ module _ {V : Type 0} {after : V → Line → V} {all left : List (List ℕ)} {l
       let r = s.reached in
       subst (λ n. Verdict all (bad n reason)) (sym is.0)
       (bad_line SaysInFile all left line place last s.taken rows reason r
-          (is_wrong (IsLineOf trees version) (nodes_of version) r.front rows line told reason is.1))
+      (is_wrong (IsLineOf trees version) (nodes_of version) r.front rows line told reason is.1))
   line_fault Memory is = tt
 
   pub line_left : (new : List Provable) (fault : ReplayFault) → new ≡ rows →

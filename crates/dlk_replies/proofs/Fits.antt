@@ -56,16 +56,16 @@ names_there words command n count =
     let k = length (form_of command).inputs in
     let same : 1 + n - 1 ≡ k = omega (arith, count) in
     ap (λ (m : ℕ). map string_bytes (take m (drop 1 words))) same ∙ sym (take-map string_bytes k (drop 1 words))
-        ∙ ap (λ (ws : List (List ℕ)). take k ws) (sym (drop-map string_bytes 1 words))
+    ∙ ap (λ (ws : List (List ℕ)). take k ws) (sym (drop-map string_bytes 1 words))
 
 pub others_there : (words : List (String Global)) (command : Command) (n : ℕ) → n ≡ length (form_of command).inputs →
     map string_bytes (take (length words - (1 + n)) (drop (1 + n) words)) ≡ others_of command (map string_bytes words)
 others_there words command n count =
     let whole : take (length words - (1 + n)) (drop (1 + n) words) ≡ drop (1 + n) words =
-        take_all (length words - (1 + n)) (drop (1 + n) words) (omega (arith, length-drop (1 + n) words)) in
+    take_all (length words - (1 + n)) (drop (1 + n) words) (omega (arith, length-drop (1 + n) words)) in
     let twice : drop (1 + n) words ≡ drop n (drop 1 words) = sym (drop-drop n 1 words) in
     ap (map string_bytes) (whole ∙ twice) ∙ sym (drop-map string_bytes n (drop 1 words))
-        ∙ ap (λ (ws : List (List ℕ)). drop n ws) (sym (drop-map string_bytes 1 words))
+    ∙ ap (λ (ws : List (List ℕ)). drop n ws) (sym (drop-map string_bytes 1 words))
     ∙ ap (λ (m : ℕ). drop m (drop 1 (map string_bytes words))) count
 
 -- the first input that is too long is sought among these names and roles
@@ -77,11 +77,11 @@ same_sought c words names form texts is_names is_form = λ i. first_too_long (is
 pub verb_and_rest : (words rest : List (String Global)) (verb : String Global) (form : Form) → 1 ≤ length words → verb ≡ get_or words 0 verb →
     bytes_eq (string_bytes verb) form.verb ≡ true →
     length form.inputs ≤ length words - 1 → rest ≡ drop (length form.inputs) (drop 1 words) →
-        ends_in form.last (map string_bytes rest) ≡ has_form (map string_bytes words) form
+    ends_in form.last (map string_bytes rest) ≡ has_form (map string_bytes words) form
 verb_and_rest [] rest verb form some first same fits is = absurd (omega arith)
 verb_and_rest (w ∷ ws) rest verb form some first same fits is =
     let k = length form.inputs in
     let here : bytes_eq (string_bytes w) form.verb ≡ true = ap (λ v. bytes_eq (string_bytes v) form.verb) (sym first) ∙ same in
     let room : nat_le k (length (map string_bytes ws)) ≡ true =
-        le-leb k (length (map string_bytes ws)) (omega (arith, fits, length-map ws (string_bytes {Z = Global}))) in
+    le-leb k (length (map string_bytes ws)) (omega (arith, fits, length-map ws (string_bytes {Z = Global}))) in
     ap (λ l. ends_in form.last (map string_bytes l)) is ∙ ap (ends_in form.last) (sym (drop-map string_bytes k ws)) ∙ rw (here, room) refl

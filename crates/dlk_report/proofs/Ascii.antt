@@ -17,4 +17,4 @@ pub all_ascii : {texts : List (List ℕ)} (trees : List Tree) (sequents : List I
 all_ascii trees sequents e h =
     let each : All (λ s. IsAscii (text_of (sequent_at trees s))) sequents = λ k d lt. one_ascii _ refl (h k d lt) in
     subst (All IsAscii) (sym e) (All-map IsAscii text_of (map (sequent_at trees) sequents)
-        (All-map (λ s. IsAscii (text_of s)) (sequent_at trees) sequents each))
+    (All-map (λ s. IsAscii (text_of s)) (sequent_at trees) sequents each))

@@ -17,7 +17,7 @@ use Rattle.dlk_sequent.specs.SymbolSets.{AreSymbolsOf}
 abbrev pub chosen : (is_sorted is_twice has_dots is_stray is_taboo : Bool) → Option Why
 chosen is_sorted is_twice has_dots is_stray is_taboo =
     cond (not is_sorted) (Some Why'.Sort) (cond is_twice (Some Why'.Twice)
-        (cond has_dots (Some Why'.Dot) (cond is_stray (Some Why'.Hole) (cond is_taboo (Some Why'.Taboo) None))))
+    (cond has_dots (Some Why'.Dot) (cond is_stray (Some Why'.Hole) (cond is_taboo (Some Why'.Taboo) None))))
 
 pub chosen_is : (trees : List Tree) (symbols : List Sym) (p : Pair) {is_sorted is_twice has_dots is_stray is_taboo : Bool} →
     is_sorted ≡ is_of_kind p.sym.kind (tree trees p.by) →

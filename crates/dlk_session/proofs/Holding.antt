@@ -56,7 +56,7 @@ module _ (trees : List Tree) where
         there = omega (arith, few, s.there);
         same = ap (map f) (sym (take-take fewer count all few)) ∙ sym (take-map f fewer (take count all)) ∙ ap (take fewer) s.same
             ∙ take-map f fewer (take count steps) ∙ ap (map f)
-                (take-take fewer count steps few ∙ sym (take-take fewer cut steps within) ∙ ap (take fewer) (sym is));
+            (take-take fewer count steps few ∙ sym (take-take fewer cut steps within) ∙ ap (take fewer) (sym is));
       }
 
   -- all of them are
@@ -148,7 +148,7 @@ module _ {S : Type 0} (trees : S → List Tree) where
       let store : facts trees k ≡ map (provable_at (trees mid.store)) k.rows = ap (λ s. map (provable_at (trees s)) k.rows) e_store in
       let kept : map (provable_at (trees mid.store)) k.rows ≡ take (length old.rows) (facts trees mid) =
       ap (map (provable_at (trees mid.store))) (e_rows ∙ ap (λ n. take n mid.rows) is_rows)
-          ∙ sym (take-map (provable_at (trees mid.store)) (length old.rows) mid.rows) in
+      ∙ sym (take-map (provable_at (trees mid.store)) (length old.rows) mid.rows) in
       record { ids = e_rows ∙ ap (λ n. take n mid.rows) is_rows ∙ extends.ids; provables = store ∙ kept ∙ extends.provables }
 
   pub zero_no_goal : (k : KernelState S) (goal : ℕ) → goal ≡ 0 → ¬ IsPlace (main_goals (facts trees k)) goal
@@ -195,12 +195,18 @@ module _ {S : Type 0} (trees : S → List Tree) where
         take-map (step_at (trees held.kernel.store)) count held.steps ∙ (λ i. map (step_at (trees (sym store i))) (sym are i)) in
         let P : State → Reply → Type 0 = λ next says. Undoes (state trees held) says next in
         let state_is : record (state trees held)
-            { steps = take count (state trees held).steps; rows = take count (state trees held).rows; earlier = before } ≡ state trees (cut kernel steps) =
-        λ i. record { steps = steps_are i; rows = facts_are i; earlier = before; used = held.used; saved =
-            option_map (map (step_at (trees (sym store i)))) held.saved } in
+        { steps = take count (state trees held).steps; rows = take count (state trees held).rows; earlier = before } ≡ state trees (cut kernel steps) =
+        λ i. record {
+          steps = steps_are i;
+          rows = facts_are i;
+          earlier = before;
+          used = held.used;
+          saved =
+              option_map (map (step_at (trees (sym store i)))) held.saved;
+        } in
         let by_state : Undoes (state trees held) (reply.Ok (length (main_goals (take count (state trees held).rows)))) (state trees (cut kernel steps)) =
         subst (λ (next : State). Undoes (state trees held) (reply.Ok (length (main_goals (take count (state trees held).rows)))) next) state_is
-            (undone before count is) in
+        (undone before count is) in
         subst (λ (rs : List Provable). Undoes (state trees held) (reply.Ok (length (main_goals rs))) (state trees (cut kernel steps))) facts_are by_state
 
     pub undone_held : (kernel : KernelState S) (steps : List Step) → kernel.store ≡ held.kernel.store → kernel.rows ≡ take count held.kernel.rows →
@@ -251,8 +257,14 @@ module _ {S : Type 0} (trees : S → List Tree) where
 
   pub save_state : (held : Held S) (copies : List Step) → map (step_at (trees held.kernel.store)) copies ≡ map (step_at (trees held.kernel.store)) held.steps →
       state trees (record held { saved = Some copies }) ≡ saving (state trees held)
-  save_state held copies same = λ i. record { steps = (state trees held).steps; rows = facts trees held.kernel; earlier = held.earlier; used =
-      held.used; saved = Some (same i) }
+  save_state held copies same = λ i. record {
+    steps = (state trees held).steps;
+    rows = facts trees held.kernel;
+    earlier = held.earlier;
+    used =
+        held.used;
+    saved = Some (same i);
+  }
 
 -- Steps stay while the store grows.
 module _ (known : (old new : List Tree) (step : Step) → Keeps old new → HasKnownIds old step → HasKnownIds new step)
@@ -401,7 +413,7 @@ module _ (known : (old new : List Tree) (step : Step) → Keeps old new → HasK
       pub ran_done : (new steps : List Step) (earlier : List ℕ) (mark used count left : ℕ) → steps ≡ held.steps ++ new → earlier ≡ held.earlier ++ mark ∷ [] →
           mark ≡ length held.kernel.rows → All (HasKnownIds (trees kernel.store)) new →
           becomes t (facts trees held.kernel) goal held.used (Done (progress_at trees kernel new used) count) →
-              left ≡ length (main_goals (facts trees kernel)) →
+          left ≡ length (main_goals (facts trees kernel)) →
           Ran (made steps earlier used) (reply.Ok left)
       ran_done new steps earlier mark used count left are is_earlier is_mark known_new is left_is =
           let Known : Step → Type 0 = HasKnownIds (trees kernel.store) in

@@ -28,7 +28,7 @@ pub not_refused : {S : Type 0} (trees : S → List Tree) (k : State S) (s : Sequ
 not_refused trees k s model why none is formed small shallow fault =
     let by_rows = subst (λ (rows : List Provable). Against rows (step_at (trees k.store) (step.Start s)) why) (no_facts trees k none) fault.against in
     none_against (tree (trees k.store) model) why formed small shallow
-        (subst (λ (t : Sequent). Against [] (step_at (trees k.store) (step.Start t)) why) is by_rows)
+    (subst (λ (t : Sequent). Against [] (step_at (trees k.store) (step.Start t)) why) is by_rows)
 
 -- and adds its row
 pub stated_row : {S : Type 0} (trees : S → List Tree) (k : State S) (after : List Provable) (s : Sequent) (model : Id) → k.rows ≡ [] → s ≡ alone model →

@@ -74,4 +74,4 @@ kid_more old mid new which ks i d one all more sound lt is keeps so_far makes =
     subst (Means old (number_in which k)) (set_in_at old which k) (set_itself (is_set_in old which k (sound i d lt))) in
     let now : Means mid one (set_in which (sets_at old k)) = means_kept keeps (subst (λ n. Means old n (set_in which (sets_at old k))) (sym is) own) in
     means_same (λ v. sym (kids_take old which ks i d lt v))
-        (makes.means (in_kids which (map (sets_at old) (take i ks))) (set_in which (sets_at old k)) so_far now)
+    (makes.means (in_kids which (map (sets_at old) (take i ks))) (set_in which (sets_at old k)) so_far now)

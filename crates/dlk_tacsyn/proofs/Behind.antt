@@ -28,7 +28,7 @@ module _ (read : Reading) where
 
   pub call_closed : (at : ℕ) (k : PartKind) (outer : Stack) (f : Frame) (c : Call) (ws : List Written) (t : Tactic) →
       k ≡ kind.Close → given c.before c.current ≡ Some ws → atom_of read c.at c.name ws ≡ Says t →
-          after_call read at k outer f c ≡ Says (state outer f (Whole t))
+      after_call read at k outer f c ≡ Says (state outer f (Whole t))
   call_closed at k outer f c ws t closes all found =
       ap (λ z. after_call read at z outer f c) closes
       ∙ ap (λ o. end_call read at c o >>= (λ u. Says (state outer f (Whole u)))) all
@@ -38,7 +38,7 @@ module _ (read : Reading) where
       closed f.opened f.branches ≡ u → finish read s ≡ Says u
   finish_ended s t f u last ends is =
       ap (λ m. m >>= (λ v. Says (closed s.inner.opened (end_choice s.inner v).branches))) last ∙ (λ i. Says (closed (ends i).opened (ends i).branches))
-          ∙ ap (λ z. Says z) is
+      ∙ ap (λ z. Says z) is
 
   pub run_next : (X : Outcome State) (s next : State) (p : Part) (its after : List Part) → X ≡ run read s its → its ≡ p ∷ after → step read s p ≡ Says next →
       X ≡ run read next after

@@ -59,7 +59,7 @@ module _ (read : Reading) where
     sequence_later n (script.ThenBranch q semicolon fork l close) =
         bind_later (sequence_of read n q) _ (sequence_later n q)
         (λ ts. bind_later (opened n fork (branches_of read (n + 1) l)) _
-            (if_later (nat_lt n most_open) (branches_of read (n + 1) l) (Nesting fork) (branches_later (n + 1) l) tt) (λ us. tt))
+        (if_later (nat_lt n most_open) (branches_of read (n + 1) l) (Nesting fork) (branches_later (n + 1) l) tt) (λ us. tt))
 
     branches_later : (n : ℕ) (l : script.Scripts) → IsLater (branches_of read n l)
     branches_later n (script.OneScript s) = bind_later (choices_of read n s) _ (choices_later n s) (λ ts. tt)
@@ -74,7 +74,7 @@ module _ (read : Reading) where
     primary_later : (n : ℕ) (p : script.Primary) → IsLater (primary_of read n p)
     primary_later n (script.Group opens s close) =
         bind_later (opened n opens (choices_of read (n + 1) s)) _
-            (if_later (nat_lt n most_open) (choices_of read (n + 1) s) (Nesting opens) (choices_later (n + 1) s) tt) (λ ts. tt)
+        (if_later (nat_lt n most_open) (choices_of read (n + 1) s) (Nesting opens) (choices_later (n + 1) s) tt) (λ ts. tt)
     primary_later n (script.Atom at x) = by_later at x [] (text_row_of x)
     primary_later n (script.Call at x opens l close) = by_later at x (all_written l) (text_row_of x)
 

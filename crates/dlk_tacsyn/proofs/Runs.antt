@@ -41,7 +41,7 @@ module _ (read : Reading) where
   place_run (script.Below p point place n) outer f at x ws =
       run_append (in_call outer f at x ws current.Nothing) (place_parts p) (part point kind.Point ∷ part place (kind.Number n) ∷ [])
       ∙ bind_at _ (Says (in_call outer f at x ws (current.Given (written.At (side_of p) (path_of p)))))
-          (λ t. run read t (part point kind.Point ∷ part place (kind.Number n) ∷ [])) (place_run p outer f at x ws)
+      (λ t. run read t (part point kind.Point ∷ part place (kind.Number n) ∷ [])) (place_run p outer f at x ws)
 
   argument_run : (a : script.Argument) (outer : Stack) (f : Frame) (at : ℕ) (x : List ℕ) (ws : List Written) →
       run read (in_call outer f at x ws current.Nothing) (argument_parts a) ≡ Says (in_call outer f at x ws (current.Given (written_of a)))
@@ -66,7 +66,7 @@ module _ (read : Reading) where
         last = written_of a;
         runs = run_append (in_call outer f at x [] current.Nothing) (arguments_parts l) (part comma kind.Comma ∷ argument_parts a)
             ∙ bind_at _ (Says (in_call outer f at x before.front (current.Given before.last))) (λ t. run read t (part comma kind.Comma ∷ argument_parts a))
-                before.runs
+            before.runs
             ∙ argument_run a outer f at x (before.front ++ before.last ∷ []);
         all = ap (λ ws. ws ++ written_of a ∷ []) before.all;
       }
@@ -87,7 +87,7 @@ module _ (read : Reading) where
   -- a part that ends the strategy that stands last
   next : {A B : Type 0} (outer : Stack) (G : B → Frame) (add : B → Tactic → A) (R : Outcome State) (o : Outcome A) → Comes outer G add R o →
       (at : ℕ) (k : PartKind) → ((f : Frame) (a : ℕ) (x : List ℕ) →
-          after_name read at k outer f a x ≡ (atom_of read a x [] >>= (λ t. after_whole at k outer f t))) →
+      after_name read at k outer f a x ≡ (atom_of read a x [] >>= (λ t. after_whole at k outer f t))) →
       (E : A → Outcome State) → ((b : B) (t : Tactic) → after_whole at k outer (G b) t ≡ E (add b t)) →
       (R >>= (λ s. step read s (part at k))) ≡ (o >>= E)
   next outer G add R o (named b a x q w) at k same E h =
@@ -105,7 +105,7 @@ module _ (read : Reading) where
   next_run : {A B : Type 0} (outer : Stack) (G : B → Frame) (add : B → Tactic → A) (s : State) (ps : List Part) (o : Outcome A) →
       Comes outer G add (run read s ps) o →
       (at : ℕ) (k : PartKind) (qs : List Part) →
-          ((f : Frame) (a : ℕ) (x : List ℕ) → after_name read at k outer f a x ≡ (atom_of read a x [] >>= (λ t. after_whole at k outer f t))) →
+      ((f : Frame) (a : ℕ) (x : List ℕ) → after_name read at k outer f a x ≡ (atom_of read a x [] >>= (λ t. after_whole at k outer f t))) →
       (E : A → Outcome State) → ((b : B) (t : Tactic) → after_whole at k outer (G b) t ≡ E (add b t)) →
       run read s (ps ++ part at k ∷ qs) ≡ (o >>= (λ a. E a >>= (λ u. run read u qs)))
   next_run outer G add s ps o comes at k qs same E h =
@@ -169,36 +169,36 @@ module _ (read : Reading) where
   -- a repeat behind steps
   step_comes : (ts : List Tactic) (r : script.Repeat) (outer : Stack) (by : Opened) (level : ℕ) (bs cs : List Tactic) →
       Comes outer (λ (u : Unit {0}). frame by level bs cs ts) alone (run read (state outer (frame by level bs cs ts) Nothing) (repeat_parts r))
-          (repeat_of read level r) →
+      (repeat_of read level r) →
       Comes outer (λ (ss : List Tactic). frame by level bs cs ss) behind_steps (run read (state outer (frame by level bs cs ts) Nothing) (repeat_parts r))
-          (repeat_of read level r >>= (λ t. Says (ts ++ t ∷ [])))
+      (repeat_of read level r >>= (λ t. Says (ts ++ t ∷ [])))
   step_comes ts r outer by level bs cs comes =
       lift outer (λ (u : Unit {0}). frame by level bs cs ts) alone (λ (ss : List Tactic). frame by level bs cs ss) behind_steps (λ u. ts) (λ t. ts ++ t ∷ [])
-          (λ u. refl) (λ u t. refl)
+      (λ u. refl) (λ u t. refl)
       (run read (state outer (frame by level bs cs ts) Nothing) (repeat_parts r)) (repeat_of read level r) comes
 
   -- a sequence behind choices
   choice_comes : (us : List Tactic) (q : script.Sequence) (outer : Stack) (by : Opened) (level : ℕ) (bs : List Tactic) →
       Comes outer (λ (ss : List Tactic). frame by level bs us ss) behind_steps (run read (state outer (frame by level bs us []) Nothing) (sequence_parts q))
-          (sequence_of read level q) →
+      (sequence_of read level q) →
       Comes outer (λ (b : List Tactic × List Tactic). frame by level bs b.0 b.1) behind_choices
-          (run read (state outer (frame by level bs us []) Nothing) (sequence_parts q))
-          (sequence_of read level q >>= (λ ts. Says (us ++ whole Sequence ts ∷ [])))
+      (run read (state outer (frame by level bs us []) Nothing) (sequence_parts q))
+      (sequence_of read level q >>= (λ ts. Says (us ++ whole Sequence ts ∷ [])))
   choice_comes us q outer by level bs comes =
       lift outer (λ (ss : List Tactic). frame by level bs us ss) behind_steps (λ (b : List Tactic × List Tactic). frame by level bs b.0 b.1) behind_choices
-          (λ ss. (us, ss)) (λ ts. us ++ whole Sequence ts ∷ []) (λ ss. refl) (λ ss t. refl)
+      (λ ss. (us, ss)) (λ ts. us ++ whole Sequence ts ∷ []) (λ ss. refl) (λ ss t. refl)
       (run read (state outer (frame by level bs us []) Nothing) (sequence_parts q)) (sequence_of read level q) comes
 
   -- a strategy behind others of a branch
   branch_comes : (us : List Tactic) (s : script.Script) (outer : Stack) (by : Opened) (level : ℕ) →
       Comes outer (λ (b : List Tactic × List Tactic). frame by level us b.0 b.1) behind_choices
-          (run read (state outer (frame by level us [] []) Nothing) (script_parts s)) (choices_of read level s) →
+      (run read (state outer (frame by level us [] []) Nothing) (script_parts s)) (choices_of read level s) →
       Comes outer (λ (b : List Tactic × List Tactic × List Tactic). frame by level b.0 b.1 b.2) behind_branches
-          (run read (state outer (frame by level us [] []) Nothing) (script_parts s)) (choices_of read level s >>= (λ ts. Says (us ++ whole Choice ts ∷ [])))
+      (run read (state outer (frame by level us [] []) Nothing) (script_parts s)) (choices_of read level s >>= (λ ts. Says (us ++ whole Choice ts ∷ [])))
   branch_comes us s outer by level comes =
       lift outer (λ (b : List Tactic × List Tactic). frame by level us b.0 b.1) behind_choices
-          (λ (b : List Tactic × List Tactic × List Tactic). frame by level b.0 b.1 b.2) behind_branches (λ b. (us, b.0, b.1))
-          (λ ts. us ++ whole Choice ts ∷ []) (λ b. refl) (λ b t. refl)
+      (λ (b : List Tactic × List Tactic × List Tactic). frame by level b.0 b.1 b.2) behind_branches (λ b. (us, b.0, b.1))
+      (λ ts. us ++ whole Choice ts ∷ []) (λ b. refl) (λ b t. refl)
       (run read (state outer (frame by level us [] []) Nothing) (script_parts s)) (choices_of read level s) comes
 
   mutual
@@ -227,7 +227,7 @@ module _ (read : Reading) where
         (primary_of read f.level (script.Group opens s close))
         (inside >>= (λ ts. Says (whole Choice ts)))
         (bracket_run outer f Group opens (λ (b : List Tactic × List Tactic). frame Group (f.level + 1) [] b.0 b.1) behind_choices (script_parts s)
-            (choices_of read (f.level + 1) s) close (λ ts. whole Choice ts) (λ b t. refl)
+        (choices_of read (f.level + 1) s) close (λ ts. whole Choice ts) (λ b t. refl)
         (script_comes s (within outer f) Group (f.level + 1) []))
         refl
         (ends_as outer (λ (u : Unit {0}). f) alone tt inside (λ ts. whole Choice ts))
@@ -244,10 +244,10 @@ module _ (read : Reading) where
         ((before >>= (λ t. repeated at n t)) >>= (λ t. Says t))
         (
         next_run outer (λ (u : Unit {0}). f) alone (state outer f Nothing) (repeat_parts r) before (repeat_comes r outer f) star kind.Star
-            (part at (kind.Number n) ∷ [])
+        (part at (kind.Number n) ∷ [])
         (λ g a x. refl) (λ t. Says (state outer f (Whole t))) (λ b t. refl)
         ∙ bind_same before (λ t. (repeated at n t >>= (λ u. Says (state outer f (Whole u)))) >>= (λ u. Says u))
-            (λ t. repeated at n t >>= (λ u. Says (state outer f (Whole u))))
+        (λ t. repeated at n t >>= (λ u. Says (state outer f (Whole u))))
         (λ t. bind_says (repeated at n t >>= (λ u. Says (state outer f (Whole u)))))
         ∙ sym (bind_assoc before (λ t. repeated at n t) (λ t. Says (state outer f (Whole t))))
         )
@@ -256,7 +256,7 @@ module _ (read : Reading) where
 
     sequence_comes : (q : script.Sequence) (outer : Stack) (by : Opened) (level : ℕ) (bs cs : List Tactic) →
         Comes outer (λ (ss : List Tactic). frame by level bs cs ss) behind_steps (run read (state outer (frame by level bs cs []) Nothing) (sequence_parts q))
-            (sequence_of read level q)
+        (sequence_of read level q)
     sequence_comes (script.OneRepeat r) outer by level bs cs =
         step_comes [] r outer by level bs cs (repeat_comes r outer (frame by level bs cs []))
     sequence_comes (script.ThenRepeat q semicolon r) outer by level bs cs =
@@ -267,11 +267,11 @@ module _ (read : Reading) where
         (sequence_of read level (script.ThenRepeat q semicolon r))
         (sequence_of read level (script.ThenRepeat q semicolon r))
         (next_run outer G behind_steps (state outer (G []) Nothing) (sequence_parts q) (sequence_of read level q) (sequence_comes q outer by level bs cs)
-            semicolon kind.Semicolon (repeat_parts r)
+        semicolon kind.Semicolon (repeat_parts r)
         (λ g a x. refl) (λ ts. Says (state outer (G ts) Nothing)) (λ b t. refl))
         refl
         (then_comes outer G behind_steps (sequence_of read level q) (λ ts. run read (state outer (G ts) Nothing) (repeat_parts r))
-            (λ ts. repeat_of read level r >>= (λ t. Says (ts ++ t ∷ [])))
+        (λ ts. repeat_of read level r >>= (λ t. Says (ts ++ t ∷ [])))
         (λ ts. step_comes ts r outer by level bs cs (repeat_comes r outer (frame by level bs cs ts))))
     sequence_comes (script.ThenBranch q semicolon fork l close) outer by level bs cs =
         let G = λ (ss : List Tactic). frame by level bs cs ss in
@@ -284,28 +284,28 @@ module _ (read : Reading) where
         (sequence_of read level (script.ThenBranch q semicolon fork l close))
         (
         ap (run read (state outer (G []) Nothing))
-            (append_assoc (sequence_parts q) (part semicolon kind.Semicolon ∷ part fork kind.Fork ∷ scripts_parts l) (part close kind.Close ∷ []))
+        (append_assoc (sequence_parts q) (part semicolon kind.Semicolon ∷ part fork kind.Fork ∷ scripts_parts l) (part close kind.Close ∷ []))
         ∙ next_run outer G behind_steps (state outer (G []) Nothing) (sequence_parts q) (sequence_of read level q) (sequence_comes q outer by level bs cs)
-            semicolon kind.Semicolon rest
+        semicolon kind.Semicolon rest
         (λ g a x. refl) (λ ts. Says (state outer (G ts) Nothing)) (λ b t. refl)
         )
         refl
         (then_comes outer G behind_steps (sequence_of read level q) (λ ts. run read (state outer (G ts) Nothing) rest)
-            (λ ts. inside >>= (λ us. Says (ts ++ Branch fork (parts us) ∷ [])))
+        (λ ts. inside >>= (λ us. Says (ts ++ Branch fork (parts us) ∷ [])))
         (λ ts. comes_at outer G behind_steps
         (run read (state outer (G ts) Nothing) rest)
         (inside >>= (λ us. Says (state outer (G ts) (Whole (Branch fork (parts us))))))
         (inside >>= (λ us. Says (ts ++ Branch fork (parts us) ∷ [])))
         (inside >>= (λ us. Says (ts ++ Branch fork (parts us) ∷ [])))
         (bracket_run outer (G ts) (Fork fork) fork (λ (b : List Tactic × List Tactic × List Tactic). frame (Fork fork) (level + 1) b.0 b.1 b.2) behind_branches
-            (scripts_parts l) (branches_of read (level + 1) l) close (λ us. Branch fork (parts us)) (λ b t. refl)
+        (scripts_parts l) (branches_of read (level + 1) l) close (λ us. Branch fork (parts us)) (λ b t. refl)
         (scripts_comes l (within outer (G ts)) (Fork fork) (level + 1)))
         refl
         (ends_as outer G behind_steps ts inside (λ us. Branch fork (parts us)))))
 
     script_comes : (s : script.Script) (outer : Stack) (by : Opened) (level : ℕ) (bs : List Tactic) →
         Comes outer (λ (b : List Tactic × List Tactic). frame by level bs b.0 b.1) behind_choices
-            (run read (state outer (frame by level bs [] []) Nothing) (script_parts s)) (choices_of read level s)
+        (run read (state outer (frame by level bs [] []) Nothing) (script_parts s)) (choices_of read level s)
     script_comes (script.OneSequence q) outer by level bs = choice_comes [] q outer by level bs (sequence_comes q outer by level bs [])
     script_comes (script.OrSequence s bar q) outer by level bs =
         let G = λ (b : List Tactic × List Tactic). frame by level bs b.0 b.1 in
@@ -315,16 +315,16 @@ module _ (read : Reading) where
         (choices_of read level (script.OrSequence s bar q))
         (choices_of read level (script.OrSequence s bar q))
         (next_run outer G behind_choices (state outer (frame by level bs [] []) Nothing) (script_parts s) (choices_of read level s)
-            (script_comes s outer by level bs) bar kind.Bar (sequence_parts q)
+        (script_comes s outer by level bs) bar kind.Bar (sequence_parts q)
         (λ g a x. refl) (λ us. Says (state outer (frame by level bs us []) Nothing)) (λ b t. refl))
         refl
         (then_comes outer G behind_choices (choices_of read level s) (λ us. run read (state outer (frame by level bs us []) Nothing) (sequence_parts q))
-            (λ us. sequence_of read level q >>= (λ ts. Says (us ++ whole Sequence ts ∷ [])))
+        (λ us. sequence_of read level q >>= (λ ts. Says (us ++ whole Sequence ts ∷ [])))
         (λ us. choice_comes us q outer by level bs (sequence_comes q outer by level bs us)))
 
     scripts_comes : (l : script.Scripts) (outer : Stack) (by : Opened) (level : ℕ) →
         Comes outer (λ (b : List Tactic × List Tactic × List Tactic). frame by level b.0 b.1 b.2) behind_branches
-            (run read (state outer (frame by level [] [] []) Nothing) (scripts_parts l)) (branches_of read level l)
+        (run read (state outer (frame by level [] [] []) Nothing) (scripts_parts l)) (branches_of read level l)
     scripts_comes (script.OneScript s) outer by level = branch_comes [] s outer by level (script_comes s outer by level [])
     scripts_comes (script.ThenScript l comma s) outer by level =
         let G = λ (b : List Tactic × List Tactic × List Tactic). frame by level b.0 b.1 b.2 in
@@ -334,18 +334,18 @@ module _ (read : Reading) where
         (branches_of read level (script.ThenScript l comma s))
         (branches_of read level (script.ThenScript l comma s))
         (next_run outer G behind_branches (state outer (frame by level [] [] []) Nothing) (scripts_parts l) (branches_of read level l)
-            (scripts_comes l outer by level) comma kind.Comma (script_parts s)
+        (scripts_comes l outer by level) comma kind.Comma (script_parts s)
         (λ g a x. refl) (λ us. Says (state outer (frame by level us [] []) Nothing)) (λ b t. refl))
         refl
         (then_comes outer G behind_branches (branches_of read level l) (λ us. run read (state outer (frame by level us [] []) Nothing) (script_parts s))
-            (λ us. choices_of read level s >>= (λ ts. Says (us ++ whole Choice ts ∷ [])))
+        (λ us. choices_of read level s >>= (λ ts. Says (us ++ whole Choice ts ∷ [])))
         (λ us. branch_comes us s outer by level (script_comes s outer by level us)))
 
   -- the parts of a script, to their end
   finished : {B : Type 0} (G : B → Frame) (add : B → Tactic → List Tactic) (R : Outcome State) (o : Outcome (List Tactic)) →
       ((b : B) (t : Tactic) → finish read (state bottom (G b) (Whole t)) ≡ Says (whole Choice (add b t))) →
       ((b : B) (at : ℕ) (x : List ℕ) → finish read
-          (state bottom (G b) (Named at x)) ≡ (atom_of read at x [] >>= (λ t. finish read (state bottom (G b) (Whole t))))) →
+      (state bottom (G b) (Named at x)) ≡ (atom_of read at x [] >>= (λ t. finish read (state bottom (G b) (Whole t))))) →
       Comes bottom G add R o → (R >>= (λ s. finish read s)) ≡ (o >>= (λ ts. Says (whole Choice ts)))
   finished G add R o h same (named b at x q w) =
       bind_at R (Says (state bottom (G b) (Named at x))) (λ s. finish read s) q
@@ -361,5 +361,5 @@ module _ (read : Reading) where
   pub machine_answers : (s : script.Script) → (run read start (script_parts s) >>= (λ t. finish read t)) ≡ strategy_of read s
   machine_answers s =
       finished (λ (b : List Tactic × List Tactic). frame Group 0 [] b.0 b.1) behind_choices (run read start (script_parts s)) (choices_of read 0 s)
-          (λ b t. refl) (λ b at x. refl)
+      (λ b t. refl) (λ b at x. refl)
       (script_comes s bottom Group 0 [])

@@ -9,4 +9,4 @@ abbrev pub invariant-loop-part : goal.invariant-loop-part
 invariant-loop-part g l =
     let trees = map (tree (g.S.Store.trees l.store)) in
     list_any (keeps_off_zero (tree (g.S.Store.trees l.store) l.d)) (trees l.domain) ≡ list_any (keeps_off_zero (tree (g.S.Store.trees l.store) l.d))
-        (trees (drop l.part-index l.domain))
+    (trees (drop l.part-index l.domain))

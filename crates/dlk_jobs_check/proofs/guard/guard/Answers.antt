@@ -5,4 +5,4 @@ use Rattle.dlk_jobs_check.proofs.guard.guard.Goals as goal
 pub returns : goal.returns
 returns g c =
     answers_so (Guards c.args.model.now c.args.term.now) c.guard_on.result c.answer_of.result c.answer_of.ensures c.guard_on.ensures.reply
-        c.guard_on.ensures.ended
+    c.guard_on.ensures.ended

@@ -10,9 +10,9 @@ use Rattle.dlk_jobs_check.proofs.guard.guard_on.Goals as goal
 pub returns-clause-reply : goal.returns-clause-reply
 returns-clause-reply g c =
     guards_answer c.verdict_is_first.ensures.none c.verdict_is_first.ensures.some c.args.model.now c.args.term.now
-        (facts g.S.Store.trees c.take_term.new.kernel)
+    (facts g.S.Store.trees c.take_term.new.kernel)
     c.in_ok-taken.taken c.new-guard.result c.take_term.new.watcher c.new-guard.ensures c.in_ok-taken.ensures.taken (reply_of c.in_ok-shown.shown)
-        (reply_of c.in_ok-reply.reply)
+    (reply_of c.in_ok-reply.reply)
     c.in_ok-line.line.items c.verdict.result c.in_ok-shown.ensures c.verdict.ensures c.in_ok-line.ensures c.in_ok-reply.ensures
 
 pub returns-in_err-taken-clause-ended : goal.returns-in_err-taken-clause-ended

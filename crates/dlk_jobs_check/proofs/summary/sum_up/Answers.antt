@@ -12,5 +12,5 @@ returns g c = λ p there.
     let closed = closed_if_none trees c.goals.result.now p.goals c.is_empty.result (c.goals.ensures.goals p there) c.is_empty.ensures in
     c.printing.ensures
     ∙ summary_reply c.args.count c.args.lines (length c.leaves.result.now) p c.is_empty.result c.first_word-ended.result.now c.into_bytes.result.items
-        leaves closed
+    leaves closed
     c.first_word-ended.ensures (ap (λ v. v.items) c.into_bytes.ensures.value ∙ c.in_ok-text.ensures.ok)

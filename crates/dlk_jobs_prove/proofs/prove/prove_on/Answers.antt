@@ -86,7 +86,7 @@ returns-clause-reply g c =
     (λ r. (p : Provable) → At (facts g.S.Store.trees c.run.new.kernel) done.fact p → Records (map (step_at trees) done.steps.items) p (reply_of r))
     (λ r. Proves model text (reply_of r))
     (λ r says. done_answer model text read.0 read.1 tactic c.in_ok-tactic.ensures.found made run.1 is_run
-        (some_rows c.run_shows_formula.ensures _ _ made run.1 is_run) c.run.new.kernel.rows (provable_at trees) refl
+    (some_rows c.run_shows_formula.ensures _ _ made run.1 is_run) c.run.new.kernel.rows (provable_at trees) refl
     done.fact c.in_ok-done.ensures.fact (reply_of r) says) (rw c.as_slice.ensures.value at c.finish.ensures.reply)
 
 pub returns-clause-ended : goal.returns-clause-ended
@@ -105,7 +105,7 @@ returns-clause-ended g c =
     let is_run = subst (λ (t : Tree). RunsModel tactic t (Done made run.1)) same run.2 in
     early_done c.finish.result (map (step_at trees) done.steps.items) (Proves model text)
     (λ reply says. done_answer model text read.0 read.1 tactic c.in_ok-tactic.ensures.found made run.1 is_run
-        (some_rows c.run_shows_formula.ensures _ _ made run.1 is_run) c.run.new.kernel.rows (provable_at trees) refl
+    (some_rows c.run_shows_formula.ensures _ _ made run.1 is_run) c.run.new.kernel.rows (provable_at trees) refl
     done.fact c.in_ok-done.ensures.fact reply (λ p there. says p)) (rw c.as_slice.ensures.value at c.finish.ensures.ended)
 
 pub returns-in_err-done-clause-ended : goal.returns-in_err-done-clause-ended

@@ -23,6 +23,6 @@ returns-clause-reply g c = λ p there.
     let trees = g.S.Store.trees c.args.kernel.now.store in
     let recorded = rw c.in-Whole.is at c.in_ok-term.ensures in
     let lines : c.rows-lines.result ≡ length (map (step_at trees) taken) = c.rows-lines.ensures.count ∙ sym c.requires.few
-        ∙ sym (length-map taken (step_at trees)) in
+    ∙ sym (length-map taken (step_at trees)) in
     short_answer (map (step_at trees) taken) p c.rows-lines.result (reply_of c.in_ok-reply.reply) c.in-Whole.term.items (c.in_ok-reply.ensures p there) lines
-        recorded.0 (omega (arith, recorded.1, c.limit.ensures.limit))
+    recorded.0 (omega (arith, recorded.1, c.limit.ensures.limit))

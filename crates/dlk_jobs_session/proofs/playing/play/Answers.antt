@@ -52,6 +52,8 @@ returns-clause-turns g c =
     let trees = g.S.Store.trees in
     let old = trees c.args.session.now.kernel.store in
     let all = ap (map (line_at old)) (take_all c.loop-line.line-index c.args.lines.now (omega (arith, c.loop-line-test.false))) in
-    let played = c.loop-line.invariant.played in
-    (played.answers, subst (λ ls. Turns RunsOn (state trees c.args.session.now) ls played.answers (state trees c.loop-line.session)) all played.turns,
-        played.out_is)
+    let played = c.loop-line.invariant.played in (
+      played.answers,
+      subst (λ ls. Turns RunsOn (state trees c.args.session.now) ls played.answers (state trees c.loop-line.session)) all played.turns,
+      played.out_is,
+    )

@@ -16,4 +16,4 @@ returns-clause-none c =
     let word : text ≡ codes "apply " ++ behind = rw c.as_slice.ensures at cut in
     if_none c.number_before.result _ _
     (λ out goal rest h. out goal rest (subst (λ l. NumberThen l 32 goal rest) (behind_word h.behind behind (sym h.word_is ∙ word)) h.number))
-        c.number_before.ensures.none
+    c.number_before.ensures.none

@@ -23,4 +23,4 @@ returns-clause-fault g c =
     let save : bytes_eq text (codes "save") ≡ false = search rules in
     if_err c.read_apply.result _ _
     (λ out. no_line text (is_other text (codes "undo") undo) (is_other text (codes "show") show) (is_other text (codes "save") save) out)
-        c.read_apply.ensures.fault
+    c.read_apply.ensures.fault

@@ -16,6 +16,6 @@ pub returns-in-Whole-clause-file : goal.returns-in-Whole-clause-file
 returns-in-Whole-clause-file g c =
     let text = λ (k : Kernel g.row.S.Denot). term_text (map (step_at (g.S.Store.trees k.store)) c.in-Some.saved.now) in
     let recorded = subst (λ k. IsRecorded c.limit.result (text k) (Whole c.in-Whole.term)) c.kernel-kernel.ensures.kernel
-        (rw c.in-Whole.is at c.in_ok-term.ensures) in
+    (rw c.in-Whole.is at c.in_ok-term.ensures) in
     let short : length (text c.args.session.now.kernel) ≤ limit_of Term = omega (arith, recorded.1, c.limit.ensures.limit) in
     rw (c.in-Some.ensures.saved, recorded.0) (file {steps = map (step_at (g.S.Store.trees c.args.session.now.kernel.store)) c.in-Some.saved.now} short)

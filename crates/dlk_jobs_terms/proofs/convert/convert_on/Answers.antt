@@ -57,7 +57,7 @@ returns-clause-ended g c =
     let made = map (step_at trees) steps in
     IfErr-weaker c.record_taken.result (EndsIn (RecordsLast made)) (EndsIn (Converts term))
     (ends_weaker (RecordsLast made) (Converts term)
-        (λ reply says. convert_answer c.accepted_says_steps.ensures.taken term made rows kept.last kept.replays reply says))
+    (λ reply says. convert_answer c.accepted_says_steps.ensures.taken term made rows kept.last kept.replays reply says))
     (rw c.deref.ensures.value at c.record_taken.ensures.ended)
 
 pub returns-in_err-outcome-clause-ended : goal.returns-in_err-outcome-clause-ended

@@ -64,7 +64,7 @@ link-requires-clause-lemma_known g c =
     let new = kernel.store in
     let keeps = g.met.S.Store.grows_keeps old new c.taken.ensures.grows in
     let by = lemma_stays c.step_stays.ensures.known c.step_stays.ensures.same (trees old) (trees new) keeps c.args.lemma.now c.in_ok-by.by
-        (rw c.in_ok-by.was at c.taken_lemma-lemma.ensures.lemma) in
+    (rw c.in_ok-by.was at c.taken_lemma-lemma.ensures.lemma) in
     by.steps_known
 
 pub link-requires-clause-lemma_ends : goal.link-requires-clause-lemma_ends
@@ -75,7 +75,7 @@ link-requires-clause-lemma_ends g c =
     let new = kernel.store in
     let keeps = g.met.S.Store.grows_keeps old new c.taken.ensures.grows in
     let by = lemma_stays c.step_stays.ensures.known c.step_stays.ensures.same (trees old) (trees new) keeps c.args.lemma.now c.in_ok-by.by
-        (rw c.in_ok-by.was at c.taken_lemma-lemma.ensures.lemma) in
+    (rw c.in_ok-by.was at c.taken_lemma-lemma.ensures.lemma) in
     let others = map (step_at (trees new)) c.in_ok-by.by.steps.items in
     (by.last, replay_ends c.accepted_says_steps.ensures.taken c.args.lemma.now others by.rows by.last by.replays)
 
@@ -87,7 +87,7 @@ link-requires-clause-conclusion g c = λ q ends.
     let new = kernel.store in
     let keeps = g.met.S.Store.grows_keeps old new c.taken.ensures.grows in
     let by = lemma_stays c.step_stays.ensures.known c.step_stays.ensures.same (trees old) (trees new) keeps c.args.lemma.now c.in_ok-by.by
-        (rw c.in_ok-by.was at c.taken_lemma-lemma.ensures.lemma) in
+    (rw c.in_ok-by.was at c.taken_lemma-lemma.ensures.lemma) in
     let others = map (step_at (trees new)) c.in_ok-by.by.steps.items in
     let last = replay_ends c.accepted_says_steps.ensures.taken c.args.lemma.now others by.rows by.last by.replays in
     ap (λ (p : Provable). p.conclusion) (one_ending others q by.last ends last) ∙ by.concludes
@@ -100,7 +100,7 @@ link-requires-clause-conclusion_known g c =
     let new = kernel.store in
     let keeps = g.met.S.Store.grows_keeps old new c.taken.ensures.grows in
     let by = lemma_stays c.step_stays.ensures.known c.step_stays.ensures.same (trees old) (trees new) keeps c.args.lemma.now c.in_ok-by.by
-        (rw c.in_ok-by.was at c.taken_lemma-lemma.ensures.lemma) in
+    (rw c.in_ok-by.was at c.taken_lemma-lemma.ensures.lemma) in
     by.known
 
 pub returns-in-Err-clause-ended : goal.returns-in-Err-clause-ended
@@ -114,7 +114,7 @@ returns-in-Err-clause-ended g c =
     let new = kernel.store in
     let keeps = g.met.S.Store.grows_keeps old new c.taken.ensures.grows in
     let by = lemma_stays c.step_stays.ensures.known c.step_stays.ensures.same (trees old) (trees new) keeps c.args.lemma.now c.in_ok-by.by
-        (rw c.in_ok-by.was at c.taken_lemma-lemma.ensures.lemma) in
+    (rw c.in_ok-by.was at c.taken_lemma-lemma.ensures.lemma) in
     let main = c.in_ok-main.ensures.taken in
     let steps = map (step_at (trees new)) c.in_ok-main.main.items in
     let others = map (step_at (trees new)) c.in_ok-by.by.steps.items in
@@ -135,7 +135,7 @@ record_taken-requires-clause-some g c =
     let new = kernel.store in
     let keeps = g.met.S.Store.grows_keeps old new c.taken.ensures.grows in
     let by = lemma_stays c.step_stays.ensures.known c.step_stays.ensures.same (trees old) (trees new) keeps c.args.lemma.now c.in_ok-by.by
-        (rw c.in_ok-by.was at c.taken_lemma-lemma.ensures.lemma) in
+    (rw c.in_ok-by.was at c.taken_lemma-lemma.ensures.lemma) in
     let main = c.in_ok-main.ensures.taken in
     let steps = map (step_at (trees new)) c.in_ok-main.main.items in
     let others = map (step_at (trees new)) c.in_ok-by.by.steps.items in
@@ -173,7 +173,7 @@ returns-clause-reply g c =
     let new = kernel.store in
     let keeps = g.met.S.Store.grows_keeps old new c.taken.ensures.grows in
     let by = lemma_stays c.step_stays.ensures.known c.step_stays.ensures.same (trees old) (trees new) keeps c.args.lemma.now c.in_ok-by.by
-        (rw c.in_ok-by.was at c.taken_lemma-lemma.ensures.lemma) in
+    (rw c.in_ok-by.was at c.taken_lemma-lemma.ensures.lemma) in
     let main = c.in_ok-main.ensures.taken in
     let steps = map (step_at (trees new)) c.in_ok-main.main.items in
     let others = map (step_at (trees new)) c.in_ok-by.by.steps.items in
@@ -198,7 +198,7 @@ returns-clause-ended g c =
     let new = kernel.store in
     let keeps = g.met.S.Store.grows_keeps old new c.taken.ensures.grows in
     let by = lemma_stays c.step_stays.ensures.known c.step_stays.ensures.same (trees old) (trees new) keeps c.args.lemma.now c.in_ok-by.by
-        (rw c.in_ok-by.was at c.taken_lemma-lemma.ensures.lemma) in
+    (rw c.in_ok-by.was at c.taken_lemma-lemma.ensures.lemma) in
     let main = c.in_ok-main.ensures.taken in
     let steps = map (step_at (trees new)) c.in_ok-main.main.items in
     let others = map (step_at (trees new)) c.in_ok-by.by.steps.items in

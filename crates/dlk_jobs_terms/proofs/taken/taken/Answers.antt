@@ -39,7 +39,7 @@ returns-in_err-outcome-clause-refused g c =
     let read = c.in_ok-formula.ensures.found in
     let p = err_from_is_err_and c.from_residual-in_err-outcome.result c.from_residual-in_err-outcome.ensures.1 in
     rw (p.1, p.2) (ends_weaker (RefusesLine (codes "line") term) (RefusesTerm model term) (line_refuses model term read.0 read.1) _
-        c.in_err-outcome.ensures.refused)
+    c.in_err-outcome.ensures.refused)
 
 pub returns-in_err-judge-clause-refused : goal.returns-in_err-judge-clause-refused
 returns-in_err-judge-clause-refused g c =
@@ -54,7 +54,7 @@ returns-in_err-judge-clause-refused g c =
     let outcome = c.in_ok-outcome.outcome in
     let p = err_from_is_err_and c.from_residual-in_err-judge.result c.from_residual-in_err-judge.ensures.1 in
     rw (p.1, p.2) (ends_weaker (λ reply. (p : Provable) → At rows outcome.fact p →
-        RefusesConclusion (tree (trees kernel.store) c.in_ok-formula.formula) outcome.line p reply)
+    RefusesConclusion (tree (trees kernel.store) c.in_ok-formula.formula) outcome.line p reply)
     (RefusesTerm model term)
     (λ reply refused. conclusion_refuses (trees kernel.store) term rows outcome c.in_ok-outcome.ensures.kept model read.0 read.1 reply
     (subst (λ (f : Tree). (p : Provable) → At rows outcome.fact p → RefusesConclusion f outcome.line p reply) same refused)) _ c.in_err-judge.ensures.refused)

@@ -15,7 +15,7 @@ returns-then-size-gt-MOST_NODES-clause-refused g c =
     let past = past_nodes c.size.result (size t) c.size.ensures c.if-size-gt-MOST_NODES.true in
     ends_so (RefusesLarge t) c.refused.result c.end_by.result c.end_by.ensures
     (IfOk-weaker c.refused.result (λ r. reply_of r ≡ refusal (codes "result-too-big")) (λ r. RefusesLarge t (reply_of r)) (λ r is. inl (past, is))
-        c.refused.ensures)
+    c.refused.ensures)
 
 pub returns-then-depth-gt-GREATEST_DEPTH-clause-refused : goal.returns-then-depth-gt-GREATEST_DEPTH-clause-refused
 returns-then-depth-gt-GREATEST_DEPTH-clause-refused g c =
@@ -26,7 +26,7 @@ returns-then-depth-gt-GREATEST_DEPTH-clause-refused g c =
     let end = c.end_by-then-depth-gt-GREATEST_DEPTH in
     ends_so (RefusesLarge t) refused.result end.result end.ensures
     (IfOk-weaker refused.result (λ r. reply_of r ≡ refusal (codes "result-too-deep")) (λ r. RefusesLarge t (reply_of r)) (λ r is. inr (small, past, is))
-        refused.ensures)
+    refused.ensures)
 
 pub returns-clause-small : goal.returns-clause-small
 returns-clause-small g c =

@@ -9,4 +9,4 @@ pub returns : goal.returns
 returns c =
     IfOk-weaker c.refused.result (λ r. reply_of r ≡ refusal c.as_str.result.now) (λ r. reply_of r ≡ pair_refused c.args.pair c.args.why)
     (λ r is. is ∙ ap refusal (c.as_str.ensures.value ∙ c.in_ok-why.ensures.ok
-        ∙ ap (λ x. codes "subst pair " ++ (decimal c.args.pair ++ (codes ": " ++ x))) c.word-word.ensures)) c.refused.ensures
+    ∙ ap (λ x. codes "subst pair " ++ (decimal c.args.pair ++ (codes ": " ++ x))) c.word-word.ensures)) c.refused.ensures

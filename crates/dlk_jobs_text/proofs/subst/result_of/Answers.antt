@@ -16,4 +16,4 @@ returns-in-Err-NotAdmissible-clause-refused g c =
     let none = c.apply.ensures.none (c.in-Err-NotAdmissible.is ∙ ap Err c.in-Err-NotAdmissible.field-0-is) in
     ends_so (RefusesUse pairs e) c.refused.result c.end_by.result c.end_by.ensures
     (IfOk-weaker c.refused.result (λ r. reply_of r ≡ refusal (codes "not-admissible")) (λ r. RefusesUse pairs e (reply_of r)) (λ r is. (none, is))
-        c.refused.ensures)
+    c.refused.ensures)

@@ -18,7 +18,7 @@ returns-in_err-expression-clause-ended g c =
     let substitution = c.args.substitution.now in
     let p = err_from_is_err_and c.from_residual.result c.from_residual.ensures.1 in
     rw (p.1, p.2) (ends_weaker (RefusesFile Refused file) (Substitutes file substitution) (file_refused file substitution) _
-        c.in_err-expression.ensures.refused)
+    c.in_err-expression.ensures.refused)
 
 pub returns-in_err-pairs-clause-ended : goal.returns-in_err-pairs-clause-ended
 returns-in_err-pairs-clause-ended g c =
@@ -27,7 +27,7 @@ returns-in_err-pairs-clause-ended g c =
     let read = c.in_ok-expression.ensures.found in
     let p = err_from_is_err_and c.from_residual-in_err-pairs.result c.from_residual-in_err-pairs.ensures.1 in
     rw (p.1, p.2) (ends_weaker (RefusesPairs substitution) (Substitutes file substitution) (pairs_refused file substitution read.0 read.1) _
-        c.in_err-pairs.ensures.refused)
+    c.in_err-pairs.ensures.refused)
 
 pub returns-in_err-sigma-clause-ended : goal.returns-in_err-sigma-clause-ended
 returns-in_err-sigma-clause-ended g c =
@@ -42,7 +42,7 @@ returns-in_err-sigma-clause-ended g c =
     let both = both_read file substitution old trees c.in_ok-expression.expression read.0 said said read.1 read.2 keeps c.in_ok-pairs.ensures.found refl in
     let p = err_from_is_err_and c.from_residual-in_err-sigma.result c.from_residual-in_err-sigma.ensures.1 in
     rw (p.1, p.2) (ends_weaker (RefusesPair (pairs_at trees said)) (Substitutes file substitution)
-        (pair_answer file substitution e (pairs_at trees said) both) _
+    (pair_answer file substitution e (pairs_at trees said) both) _
     c.in_err-sigma.ensures.refused)
 
 pub returns-in_err-made-clause-ended : goal.returns-in_err-made-clause-ended
@@ -57,7 +57,7 @@ returns-in_err-made-clause-ended g c =
     let said = c.in_ok-pairs.pairs.items in
     let pairs = c.in_ok-sigma.sigma.pairs in
     let both = both_read file substitution old trees c.in_ok-expression.expression read.0 said pairs read.1 read.2 keeps c.in_ok-pairs.ensures.found
-        c.in_ok-sigma.ensures.pairs in
+    c.in_ok-sigma.ensures.pairs in
     let p = err_from_is_err_and c.from_residual-in_err-made.result c.from_residual-in_err-made.ensures.1 in
     rw (p.1, p.2) (ends_weaker (RefusesUse (pairs_at trees pairs) e) (Substitutes file substitution)
     (no_result_answer file substitution e (pairs_at trees pairs) both c.in_ok-sigma.ensures.made.well_formed) _ c.in_err-made.ensures.refused)
@@ -74,7 +74,7 @@ returns-in_err-keep_limits-clause-ended g c =
     let said = c.in_ok-pairs.pairs.items in
     let pairs = c.in_ok-sigma.sigma.pairs in
     let both = both_read file substitution old trees c.in_ok-expression.expression read.0 said pairs read.1 read.2 keeps c.in_ok-pairs.ensures.found
-        c.in_ok-sigma.ensures.pairs in
+    c.in_ok-sigma.ensures.pairs in
     let new = g.S.Store.trees c.result_of.new.store in
     let t = tree new c.in_ok-made.made in
     let has = has_result (pairs_at trees pairs) e new c.in_ok-made.made c.in_ok-sigma.ensures.made.well_formed c.in_ok-made.ensures.ok in
@@ -94,7 +94,7 @@ returns-clause-reply g c =
     let said = c.in_ok-pairs.pairs.items in
     let pairs = c.in_ok-sigma.sigma.pairs in
     let both = both_read file substitution old trees c.in_ok-expression.expression read.0 said pairs read.1 read.2 keeps c.in_ok-pairs.ensures.found
-        c.in_ok-sigma.ensures.pairs in
+    c.in_ok-sigma.ensures.pairs in
     let new = g.S.Store.trees c.result_of.new.store in
     let t = tree new c.in_ok-made.made in
     let has = has_result (pairs_at trees pairs) e new c.in_ok-made.made c.in_ok-sigma.ensures.made.well_formed c.in_ok-made.ensures.ok in
@@ -132,7 +132,7 @@ returns-in_err-made-clause-looks g c =
     let said = c.in_ok-pairs.pairs.items in
     let pairs = c.in_ok-sigma.sigma.pairs in
     let both = both_read file substitution old trees c.in_ok-expression.expression read.0 said pairs read.1 read.2 keeps c.in_ok-pairs.ensures.found
-        c.in_ok-sigma.ensures.pairs in
+    c.in_ok-sigma.ensures.pairs in
     few_looked file substitution e (pairs_at trees pairs) both _ _
     (pair_looks trees pairs e _ _ _ (rw (← c.in_ok-sigma.ensures.pairs) at c.substitution_of.ensures.cost) (c.result_of.ensures.cost c.requires))
 
@@ -148,7 +148,7 @@ returns-in_err-keep_limits-clause-looks g c =
     let said = c.in_ok-pairs.pairs.items in
     let pairs = c.in_ok-sigma.sigma.pairs in
     let both = both_read file substitution old trees c.in_ok-expression.expression read.0 said pairs read.1 read.2 keeps c.in_ok-pairs.ensures.found
-        c.in_ok-sigma.ensures.pairs in
+    c.in_ok-sigma.ensures.pairs in
     few_looked file substitution e (pairs_at trees pairs) both _ _
     (pair_looks trees pairs e _ _ _ (rw (← c.in_ok-sigma.ensures.pairs) at c.substitution_of.ensures.cost) (c.result_of.ensures.cost c.requires))
 
@@ -164,12 +164,12 @@ returns-in_err-reply-clause-looks g c =
     let said = c.in_ok-pairs.pairs.items in
     let pairs = c.in_ok-sigma.sigma.pairs in
     let both = both_read file substitution old trees c.in_ok-expression.expression read.0 said pairs read.1 read.2 keeps c.in_ok-pairs.ensures.found
-        c.in_ok-sigma.ensures.pairs in
+    c.in_ok-sigma.ensures.pairs in
     let new = g.S.Store.trees c.result_of.new.store in
     let t = tree new c.in_ok-made.made in
     let has = has_result (pairs_at trees pairs) e new c.in_ok-made.made c.in_ok-sigma.ensures.made.well_formed c.in_ok-made.ensures.ok in
     let answer = prints_answer file substitution e (pairs_at trees pairs) both t has c.in_ok-keep_limits.ensures.small c.in_ok-keep_limits.ensures.shallow
-        (printed t) refl in
+    (printed t) refl in
     printed_looked file substitution (printed t) t answer refl _ _
 
 pub returns-clause-looks : goal.returns-clause-looks
@@ -184,10 +184,10 @@ returns-clause-looks g c =
     let said = c.in_ok-pairs.pairs.items in
     let pairs = c.in_ok-sigma.sigma.pairs in
     let both = both_read file substitution old trees c.in_ok-expression.expression read.0 said pairs read.1 read.2 keeps c.in_ok-pairs.ensures.found
-        c.in_ok-sigma.ensures.pairs in
+    c.in_ok-sigma.ensures.pairs in
     let new = g.S.Store.trees c.result_of.new.store in
     let t = tree new c.in_ok-made.made in
     let has = has_result (pairs_at trees pairs) e new c.in_ok-made.made c.in_ok-sigma.ensures.made.well_formed c.in_ok-made.ensures.ok in
     let answer = prints_answer file substitution e (pairs_at trees pairs) both t has c.in_ok-keep_limits.ensures.small c.in_ok-keep_limits.ensures.shallow
-        (printed t) refl in
+    (printed t) refl in
     printed_looked file substitution (printed t) t answer refl _ _

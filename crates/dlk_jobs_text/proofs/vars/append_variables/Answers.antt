@@ -10,5 +10,5 @@ loop-v-preserved c =
 pub returns : goal.returns
 returns c =
     all_behind (λ v. spell (variable v)) c.args.vars.now c.first-item.result c.loop-v.v-index _ _ _ c.in-len1-up.len_at_least c.first-item.is
-        c.loop-v-test.false
+    c.loop-v-test.false
     c.in_ok-variable_text.ensures.ok c.loop-v.invariant

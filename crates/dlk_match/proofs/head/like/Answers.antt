@@ -18,7 +18,7 @@ returns-in_default-name_in-clause-matched c = λ trees.
 pub returns-then-not-branch-clause-matched : goal.returns-then-not-branch-clause-matched
 returns-then-not-branch-clause-matched c = λ trees.
     unlike_named c.args.key.now c.args.target.now (extra_at trees c.args.extra.now) c.in-Some.x.now c.in-Some.ensures c.in-Some-name_in.y.now
-        c.in-Some-name_in.ensures
+    c.in-Some-name_in.ensures
     c.in_ok-is_with_name.field-0 c.if-not-branch.true c.in_ok-is_with_name.ensures
 
 pub returns-clause-matched : goal.returns-clause-matched

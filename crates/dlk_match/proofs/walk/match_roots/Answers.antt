@@ -17,6 +17,6 @@ returns-clause-matched g c =
     let new = extra_at now c.match_node.new.extra in
     let keys = c.in_ok-op.keys in
     let head = subst (λ ks. HeadIs c.in_ok-op.op (kid_trees before ks) target now old new c.in_ok-head.head) c.as_slice.ensures.value
-        c.in_ok-head.ensures.matched in
+    c.in_ok-head.ensures.matched in
     subst (RestIs before now key target old new) (sym c.rest_of.ensures)
     (rest_is before now c.in_ok-op.op key target old new keys c.in_ok-op.ensures.tree c.in_ok-op.ensures.known c.in_ok-head.head head)

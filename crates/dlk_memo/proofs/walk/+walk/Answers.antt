@@ -138,7 +138,7 @@ loop-kid-preserved g t c =
 pub conclude-requires-clause-ready : goal.conclude-requires-clause-ready
 conclude-requires-clause-ready g t c =
     g.met.R.Rule.ready_kept c.args.rule.now (g.S.Store.trees c.args.store.now) (g.S.Store.trees c.loop-kid.store) c.loop-kid.invariant.made.kept
-        c.requires.ready
+    c.requires.ready
 
 pub conclude-requires-clause-old : goal.conclude-requires-clause-old
 conclude-requires-clause-old g t c =
@@ -225,6 +225,6 @@ returns-clause-spends g t c =
     c.loop-kid.done c.conclude.new.done c.conclude.result c.loop-kid.steps c.conclude.ensures.put c.conclude.ensures.err c.conclude.ensures.long
     c.conclude.ensures.once loop in
     let more : IsTrue u → c.conclude.new.steps ≤ c.loop-kid.steps + looks =
-        λ h. subst (λ j. c.conclude.new.steps ≤ c.loop-kid.steps + g.R.Rule.looks j) job (c.conclude.ensures.cost h) in
+    λ h. subst (λ j. c.conclude.new.steps ≤ c.loop-kid.steps + g.R.Rule.looks j) job (c.conclude.ensures.cost h) in
     spends_opened u looks root us c.args.done.now c.open.new.done c.args.id c.args.steps.now c.open.new.steps known is c.in_ok-op.ensures.opened
     c.conclude.new.done c.loop-kid.steps c.conclude.new.steps finished more

@@ -20,4 +20,4 @@ returns-clause-cost g c u =
     let trees = g.S.Store.trees c.args.store.now in
     spent_few g.S.Store.unique (1 + g.R.Rule.looks (g.R.Rule.job c.args.rule.now trees)) (tree trees c.args.id) (g.S.Store.trees c.walk.new.store)
     c.new-done.result c.walk.new.done c.args.steps.now c.walk.new.steps c.new-done.ensures.empty c.walk.ensures.spends u
-        (g.met.S.Store.one_id u c.walk.new.store)
+    (g.met.S.Store.one_id u c.walk.new.store)

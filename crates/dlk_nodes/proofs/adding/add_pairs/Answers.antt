@@ -38,7 +38,7 @@ returns-in_err-add_new-clause-begun g c =
     let old = nodes_at trees c.args.table.now in
     subst (λ l. AreBegun old (nodes_at trees c.add_new.new.table) (new_in_each old l)) (replaced trees c.args.pairs.now)
     (tree_begun (λ (p : Pair). tree trees p.by) old (new_in_each old (map (λ (p : Pair). tree trees p.by) c.args.pairs.now)) c.args.pairs.now
-        (nodes_at trees c.loop-pair.table)
+    (nodes_at trees c.loop-pair.table)
     (nodes_at trees c.add_new.new.table) c.loop-pair.pair-index c.pair-item.result c.loop-pair-test.true
     (subst (λ (p : Pair). AreBegun (nodes_at trees c.loop-pair.table) (nodes_at trees c.add_new.new.table) (new_nodes (nodes_at trees c.loop-pair.table)
     (tree trees p.by))) c.pair-item.is c.in_err-add_new.ensures.begun) c.loop-pair.invariant.so_far)
@@ -49,7 +49,7 @@ returns-clause-added g c =
     let old = nodes_at trees c.args.table.now in
     subst (λ l. nodes_at trees c.loop-pair.table ≡ old ++ new_in_each old l) (replaced trees c.args.pairs.now)
     (all_put (no_trees_left (λ (p : Pair). tree trees p.by) old (new_in_each old (map (λ (p : Pair). tree trees p.by) c.args.pairs.now)) c.args.pairs.now
-        (nodes_at trees c.loop-pair.table)
+    (nodes_at trees c.loop-pair.table)
     c.loop-pair.pair-index c.loop-pair-test.false c.loop-pair.invariant.so_far))
 
 pub returns-clause-begun : goal.returns-clause-begun

@@ -5,5 +5,7 @@ use Rattle.dlk_parse.proofs.Measuring.{phrases_measured}
 use Rattle.dlk_parse.proofs.measures.measures.Goals as goal
 
 pub returns : goal.returns
-returns c = record { of_phrases = λ ps e. c.loop-next.invariant
-    ∙ ap (fold measure_step []) (take_all c.loop-next.next-index c.args.code.now c.loop-next-test.false ∙ e) ∙ phrases_measured ps }
+returns c = record {
+  of_phrases = λ ps e. c.loop-next.invariant
+      ∙ ap (fold measure_step []) (take_all c.loop-next.next-index c.args.code.now c.loop-next-test.false ∙ e) ∙ phrases_measured ps;
+}

@@ -39,4 +39,4 @@ returns-in-Ok-clause-read c =
 pub returns-clause-fault : goal.returns-clause-fault
 returns-clause-fault c =
     refused ReadsExtra extra_replacements one_extra_read Allowed (SaysExtra) c.args.origin c.read_extra.new.source _ c.new-source.ensures.origin c.in-Err.stop
-        c.refusal.result c.in-Err.ensures c.refusal.ensures
+    c.refusal.result c.in-Err.ensures c.refusal.ensures

@@ -39,4 +39,4 @@ returns-in-Ok-clause-read c =
 pub returns-clause-fault : goal.returns-clause-fault
 returns-clause-fault c =
     refused ReadsSubstitution replacements one_pairs_read Allowed (SaysPairs) c.args.origin c.read_pairs.new.source _ c.new-source.ensures.origin c.in-Err.stop
-        c.refusal.result c.in-Err.ensures c.refusal.ensures
+    c.refusal.result c.in-Err.ensures c.refusal.ensures

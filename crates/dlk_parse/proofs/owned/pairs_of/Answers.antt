@@ -8,13 +8,15 @@ make_all-requires g c = pairs_code_made c.in_ok-symbols.ensures.read.0 c.in_ok-s
     (gives_tokens c.args.origin c.in_ok-symbols.ensures.read.0 c.requires c.in_ok-symbols.ensures.read.1)
 
 pub returns-clause-found : goal.returns-clause-found
-returns-clause-found g c =
-    (c.in_ok-symbols.ensures.read.0, c.in_ok-symbols.ensures.read.1,
-        pairs_found c.in_ok-symbols.ensures.read.0 c.in_ok-symbols.field-0 c.in_ok-symbols.ensures.read.2 (g.S.Store.trees c.make_all.new.store)
-        c.in_ok-ids.ids.items c.in_ok-ids.ensures.made c.in_ok-pairs.pairs.items c.in_ok-pairs.ensures.symbols
-        (c.in_ok-pairs.ensures.ids ∙ c.as_slice.ensures.value))
+returns-clause-found g c = (
+  c.in_ok-symbols.ensures.read.0,
+  c.in_ok-symbols.ensures.read.1,
+  pairs_found c.in_ok-symbols.ensures.read.0 c.in_ok-symbols.field-0 c.in_ok-symbols.ensures.read.2 (g.S.Store.trees c.make_all.new.store)
+      c.in_ok-ids.ids.items c.in_ok-ids.ensures.made c.in_ok-pairs.pairs.items c.in_ok-pairs.ensures.symbols
+      (c.in_ok-pairs.ensures.ids ∙ c.as_slice.ensures.value),
+)
 
 pub returns-clause-known : goal.returns-clause-known
 returns-clause-known g c =
     pairs_known (g.S.Store.trees c.make_all.new.store) c.in_ok-ids.ids.items c.in_ok-pairs.pairs.items (c.in_ok-pairs.ensures.ids ∙ c.as_slice.ensures.value)
-        c.in_ok-ids.ensures.made.known
+    c.in_ok-ids.ensures.made.known

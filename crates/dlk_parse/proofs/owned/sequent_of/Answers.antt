@@ -12,7 +12,7 @@ make_all-requires g c = sides_made c.in_ok-sides.ensures.read.0 c.in_ok-sides.si
 pub split_off-requires : goal.split_off-requires
 split_off-requires g c =
     let low = left_low c.in_ok-sides.ensures.read.0 c.in_ok-sides.sides c.in_ok-sides.ensures.read.2 (g.S.Store.trees c.make_all.new.store)
-        c.in_ok-ante.ante.items c.in_ok-ante.ensures.made in
+    c.in_ok-ante.ante.items c.in_ok-ante.ensures.made in
     omega (arith, low, c.in_ok-ante.ante.ok.0)
 
 pub returns-clause-found : goal.returns-clause-found
@@ -22,15 +22,15 @@ returns-clause-found g c = (
   sequent_found c.in_ok-sides.ensures.read.0 c.in_ok-sides.sides c.in_ok-sides.ensures.read.2 (g.S.Store.trees c.make_all.new.store) c.in_ok-ante.ante.items
       c.in_ok-ante.ensures.made
       (record { ante = c.from_vec.result; succ = c.from_vec-2.result }) (c.from_vec.ensures ∙ c.in_ok-succ.ensures.items)
-          (c.from_vec-2.ensures ∙ c.in_ok-succ.ensures.tail),
+      (c.from_vec-2.ensures ∙ c.in_ok-succ.ensures.tail),
 )
 
 pub returns-clause-formulas : goal.returns-clause-formulas
 returns-clause-formulas g c =
     let found = sequent_found c.in_ok-sides.ensures.read.0 c.in_ok-sides.sides c.in_ok-sides.ensures.read.2 (g.S.Store.trees c.make_all.new.store)
-        c.in_ok-ante.ante.items c.in_ok-ante.ensures.made
+    c.in_ok-ante.ante.items c.in_ok-ante.ensures.made
     (record { ante = c.from_vec.result; succ = c.from_vec-2.result }) (c.from_vec.ensures ∙ c.in_ok-succ.ensures.items)
-        (c.from_vec-2.ensures ∙ c.in_ok-succ.ensures.tail) in
+    (c.from_vec-2.ensures ∙ c.in_ok-succ.ensures.tail) in
     sequent_formulas c.in_ok-sides.ensures.read.0
-        (sequent_at (g.S.Store.trees c.make_all.new.store) (record { ante = c.from_vec.result; succ = c.from_vec-2.result }))
-        (gives_tokens c.args.origin c.in_ok-sides.ensures.read.0 c.requires c.in_ok-sides.ensures.read.1) found
+    (sequent_at (g.S.Store.trees c.make_all.new.store) (record { ante = c.from_vec.result; succ = c.from_vec-2.result }))
+    (gives_tokens c.args.origin c.in_ok-sides.ensures.read.0 c.requires c.in_ok-sides.ensures.read.1) found

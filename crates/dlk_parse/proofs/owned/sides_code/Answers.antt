@@ -40,4 +40,4 @@ returns-in-Ok-clause-read c =
 pub returns-clause-fault : goal.returns-clause-fault
 returns-clause-fault c =
     refused ReadsSequent both_sides one_sides_read Refused (SaysSides) c.args.origin c.read_sides.new.source _ c.new-source.ensures.origin c.in-Err.stop
-        c.refusal.result c.in-Err.ensures c.refusal.ensures
+    c.refusal.result c.in-Err.ensures c.refusal.ensures

@@ -36,12 +36,15 @@ returns-in_err-check_code-in-Ok-clause-fault c =
 pub returns-in-Ok-clause-read : goal.returns-in-Ok-clause-read
 returns-in-Ok-clause-read c =
     let h = rw c.new-source.ensures.origin at c.in-Ok.ensures in
-    let calm = c.in_ok-check_tokens-in-Ok.ensures h.tokens h.noted in
-    (h.tokens, h.gives, tree_within c.args.form c.args.dots h.tokens c.in-Ok.code.items calm h.answer.says
-        (rw c.as_slice.ensures.value at c.in_ok-check_code-in-Ok.ensures))
+    let calm = c.in_ok-check_tokens-in-Ok.ensures h.tokens h.noted in (
+      h.tokens,
+      h.gives,
+      tree_within c.args.form c.args.dots h.tokens c.in-Ok.code.items calm h.answer.says
+          (rw c.as_slice.ensures.value at c.in_ok-check_code-in-Ok.ensures),
+    )
 
 pub returns-clause-fault : goal.returns-clause-fault
 returns-clause-fault c =
     refused (grammar c.args.form) itself (one_grammar c.args.form) c.args.dots
-        (λ (ts : List Token) (v : Vec Code). SaysCode (grammar c.args.form) itself c.args.dots ts v.items) c.args.origin c.read_tree.new.source _
-        c.new-source.ensures.origin c.in-Err.stop c.refusal.result c.in-Err.ensures c.refusal.ensures
+    (λ (ts : List Token) (v : Vec Code). SaysCode (grammar c.args.form) itself c.args.dots ts v.items) c.args.origin c.read_tree.new.source _
+    c.new-source.ensures.origin c.in-Err.stop c.refusal.result c.in-Err.ensures c.refusal.ensures

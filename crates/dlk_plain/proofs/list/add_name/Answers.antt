@@ -9,5 +9,7 @@ returns c =
     let old = c.args.names.now.keys in
     let new = c.insert.new.self.keys in
     let added = name_inserted old new c.in_ok-x.x c.in_ok-insert.ensures.updates.0 in
-    record { adds = subst (λ (x : List ℕ). (y : List ℕ) → list_any (bytes_eq y) new ≡ (list_any (bytes_eq y) old || bytes_eq y x))
-        (sym c.in_ok-x.ensures.cases) added }
+    record {
+      adds = subst (λ (x : List ℕ). (y : List ℕ) → list_any (bytes_eq y) new ≡ (list_any (bytes_eq y) old || bytes_eq y x))
+          (sym c.in_ok-x.ensures.cases) added;
+    }

@@ -16,5 +16,7 @@ returns-in_ok-insert c =
     let var : List ℕ → Var = λ x. record { name = x; primed = c.args.primed } in
     let added = var_inserted old new (var c.in_ok-name.name) c.in_ok-insert.ensures.updates.0 in
     let adds = subst (λ (x : List ℕ). (v : Var) → is_among new v ≡ (is_among old v || var_eq v (var x))) (sym c.in_ok-name.ensures.cases) added in
-    record { adds = λ v. adds v ∙ ap (λ b. is_among old v || b)
-        (and_true (var_eq v (var c.args.name.now)) ∙ ap (λ b. var_eq v (var c.args.name.now) && b) (sym c.if-wanted.true)) }
+    record {
+      adds = λ v. adds v ∙ ap (λ b. is_among old v || b)
+          (and_true (var_eq v (var c.args.name.now)) ∙ ap (λ b. var_eq v (var c.args.name.now) && b) (sym c.if-wanted.true));
+    }

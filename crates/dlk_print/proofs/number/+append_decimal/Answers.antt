@@ -9,7 +9,7 @@ returns-then-n-lt10 t c = same_text (sym (decimal-one c.args.n (omega arith))) c
 pub returns-in_err-append_decimal : goal.returns-in_err-append_decimal
 returns-in_err-append_decimal t c =
     same_text (sym (decimal-more c.args.n (omega arith) (omega arith)))
-        (first_failed _ _ c.from_residual.result c.from_residual.ensures.0 c.in_err-append_decimal.ensures.begun)
+    (first_failed _ _ c.from_residual.result c.from_residual.ensures.0 c.in_err-append_decimal.ensures.begun)
 
 pub returns : goal.returns
 returns t c =

@@ -6,13 +6,13 @@ use Rattle.dlk_print.proofs.pairs.pairs_text.Goals as goal
 pub returns-in_err-append-clause-memory : goal.returns-in_err-append-clause-memory
 returns-in_err-append-clause-memory g c =
     let at = at_pair (g.S.Store.trees c.args.store.now) c.args.pairs.now c.loop-i.i c.index-pairs-i.result c.index-pairs-i.is c.loop-i-test.true
-        c.loop-i.invariant.text in
+    c.loop-i.invariant.text in
     partly _ _ at (rw c.gap.ensures at c.in_err-append.ensures.begun)
 
 pub returns-in_err-pair_text-clause-memory : goal.returns-in_err-pair_text-clause-memory
 returns-in_err-pair_text-clause-memory g c =
     let at = at_pair (g.S.Store.trees c.args.store.now) c.args.pairs.now c.loop-i.i c.index-pairs-i.result c.index-pairs-i.is c.loop-i-test.true
-        c.loop-i.invariant.text in
+    c.loop-i.invariant.text in
     let pair = appended _ _ at (rw c.gap.ensures at c.in_ok-append.ensures.ok) in
     partly _ _ pair c.in_err-pair_text.ensures.text.begun
 

@@ -66,7 +66,7 @@ kids_text-returns-in_err-text_at-clause-text g t c =
     let at = at_kid (g.S.Store.trees c.args.store.now) c.args.op.now c.args.kids.now c.loop-i.i d c.loop-i-test.true c.loop-i.invariant.left in
     let kid = appended _ _ at (rw (c.gap.ensures, c.between.ensures) at c.in_ok-append.ensures.ok) in
     failed c.from_residual-in_err-text_at.result c.from_residual-in_err-text_at.ensures.0
-        (partly _ _ kid (rw c.least.ensures at c.in_err-text_at.ensures.text.begun))
+    (partly _ _ kid (rw c.least.ensures at c.in_err-text_at.ensures.text.begun))
 
 pub kids_text-loop-i-preserved : goal.kids_text-loop-i-preserved
 kids_text-loop-i-preserved g t c =
@@ -84,13 +84,13 @@ kids_text-loop-i-preserved g t c =
 pub domain-returns-in_err-append-clause-text : goal.domain-returns-in_err-append-clause-text
 domain-returns-in_err-append-clause-text g t c =
     let none = unbegun_domain c.args.out.now.items (g.S.Store.trees c.args.store.now) c.args.kids.now _ c.in-Some.id.now _ (sym c.in-Some.ensures.value)
-        c.look-node.ensures.node (sym c.if-is_true.ensures) in
+    c.look-node.ensures.node (sym c.if-is_true.ensures) in
     failed c.from_residual.result c.from_residual.ensures.0 (partly (38 ∷ []) _ none c.in_err-append.ensures.begun)
 
 pub inside_text-returns-in_err-left-in-Some-clause-text : goal.inside_text-returns-in_err-left-in-Some-clause-text
 inside_text-returns-in_err-left-in-Some-clause-text g t c =
     let none = unbegun_system c.args.out.now.items (g.S.Store.trees c.args.store.now) c.args.op.now c.in-Some.items.now c.args.kids.now _
-        c.in-Some.ensures refl in
+    c.in-Some.ensures refl in
     failed c.from_residual.result c.from_residual.ensures.0 (partly _ _ none (rw c.items.ensures at c.in_err-left-in-Some.ensures.text.begun))
 
 pub inside_text-domain-requires : goal.inside_text-domain-requires
@@ -104,7 +104,7 @@ inside_text-domain-requires g t c κs within =
 pub inside_text-returns-in_ok-left-in-Some-clause-text : goal.inside_text-returns-in_ok-left-in-Some-clause-text
 inside_text-returns-in_ok-left-in-Some-clause-text g t c =
     let none = unbegun_system c.args.out.now.items (g.S.Store.trees c.args.store.now) c.args.op.now c.in-Some.items.now c.args.kids.now
-        c.in_ok-left-in-Some.left.now c.in-Some.ensures (rw c.items.ensures at c.in_ok-left-in-Some.ensures.left) in
+    c.in_ok-left-in-Some.left.now c.in-Some.ensures (rw c.items.ensures at c.in_ok-left-in-Some.ensures.left) in
     last (appended _ _ none (rw c.items.ensures at c.in_ok-left-in-Some.ensures.text.ok)) c.domain.ensures.text
 
 pub item-returns-in_err-append_name-in-Const-clause-text : goal.item-returns-in_err-append_name-in-Const-clause-text
@@ -116,7 +116,7 @@ pub item-returns-in_err-append_name-in-Evolve-clause-text : goal.item-returns-in
 item-returns-in_err-append_name-in-Evolve-clause-text g t c =
     let none = unbegun_evolve c.args.out.now.items c.args.item.now c.in-Evolve.x (texts_of (g.S.Store.trees c.args.store.now) c.args.kids.now) c.in-Evolve.is in
     failed c.from_residual-in_err-append_name-in-Evolve.result c.from_residual-in_err-append_name-in-Evolve.ensures.0
-        (partly _ _ none c.in_err-append_name-in-Evolve.ensures.begun)
+    (partly _ _ none c.in_err-append_name-in-Evolve.ensures.begun)
 
 pub item-returns-in_ok-append_name-in-Evolve-clause-text : goal.item-returns-in_ok-append_name-in-Evolve-clause-text
 item-returns-in_ok-append_name-in-Evolve-clause-text g t c =
@@ -126,13 +126,13 @@ item-returns-in_ok-append_name-in-Evolve-clause-text g t c =
 pub items_text-returns-in_err-append-clause-text : goal.items_text-returns-in_err-append-clause-text
 items_text-returns-in_err-append-clause-text g t c =
     let at = at_item (g.S.Store.trees c.args.store.now) (mark Comma ∷ []) c.args.items.now c.loop-i.left.now c.loop-i.i c.index-items-i.result
-        c.index-items-i.is c.loop-i-test.true c.loop-i.invariant.text in
+    c.index-items-i.is c.loop-i-test.true c.loop-i.invariant.text in
     failed c.from_residual.result c.from_residual.ensures.0 (partly _ _ at (rw c.gap.ensures at c.in_err-append.ensures.begun))
 
 pub items_text-returns-in_err-left-clause-text : goal.items_text-returns-in_err-left-clause-text
 items_text-returns-in_err-left-clause-text g t c =
     let at = at_item (g.S.Store.trees c.args.store.now) (mark Comma ∷ []) c.args.items.now c.loop-i.left.now c.loop-i.i c.index-items-i.result
-        c.index-items-i.is c.loop-i-test.true c.loop-i.invariant.text in
+    c.index-items-i.is c.loop-i-test.true c.loop-i.invariant.text in
     let comma = appended _ _ at (rw c.gap.ensures at c.in_ok-append.ensures.ok) in
     failed c.from_residual-in_err-left.result c.from_residual-in_err-left.ensures.0 (partly _ _ comma c.in_err-left.ensures.text.begun)
 
@@ -156,4 +156,4 @@ items_text-loop-i-preserved g t c =
 pub items_text-returns-clause-text : goal.items_text-returns-clause-text
 items_text-returns-clause-text g t c =
     done _ (past_items (g.S.Store.trees c.args.store.now) (mark Comma ∷ []) c.args.items.now c.loop-i.left.now c.loop-i.i c.loop-i-test.false
-        c.loop-i.invariant.text)
+    c.loop-i.invariant.text)

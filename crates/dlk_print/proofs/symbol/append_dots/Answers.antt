@@ -14,7 +14,7 @@ pub returns-in_err-append-2 : goal.returns-in_err-append-2
 returns-in_err-append-2 c =
     let at = at_dot c.loop-i.i c.args.count c.loop-i-test.true c.loop-i.invariant in
     failed c.from_residual-in_err-append-2.result c.from_residual-in_err-append-2.ensures.0
-        (partly _ _ at (rw (c.gap.ensures, c.from.ensures) at c.in_err-append-2.ensures.begun))
+    (partly _ _ at (rw (c.gap.ensures, c.from.ensures) at c.in_err-append-2.ensures.begun))
 
 pub returns-in_err-append_dot : goal.returns-in_err-append_dot
 returns-in_err-append_dot c =

@@ -12,8 +12,8 @@ pub returns-in_err-add_constant-in-BarBrace : goal.returns-in_err-add_constant-i
 returns-in_err-add_constant-in-BarBrace c = λ k S n l e h.
     let w = err_from_is_err_and c.from_residual.result c.from_residual.ensures.1 in
     rw (w.1, w.2) (agrees_memory (λ (x : Equations) m. x ≡ equations_of n m) (Shows k) c.in_err-add_constant-in-BarBrace.field-0.0
-        (add l (Flow c.args.name (Except c.args.taboo))) (item_bar_name_step S n l c.args.name c.args.taboo (seen c.args.lexeme))
-        (c.in_err-add_constant-in-BarBrace.ensures n l e))
+    (add l (Flow c.args.name (Except c.args.taboo))) (item_bar_name_step S n l c.args.name c.args.taboo (seen c.args.lexeme))
+    (c.in_err-add_constant-in-BarBrace.ensures n l e))
 
 pub returns-in_ok-add_constant-in-BarBrace : goal.returns-in_ok-add_constant-in-BarBrace
 returns-in_ok-add_constant-in-BarBrace c = λ k S n l e h.

@@ -11,7 +11,7 @@ returns-in_err-finish-in-Ok g c =
     let from = c.args.source.now.origin in
     let h = c.in-Ok.ensures in
     rw (w.1, w.2) (not_finished (ReadsTokens g.R.LexemeReader.comes c.args.reader) from h.taken c.read_up.new.source c.finish.new.self
-        c.in_err-finish-in-Ok.field-0.0
+    c.in_err-finish-in-Ok.field-0.0
     (c.in_err-finish-in-Ok.ensures from h.taken h.has_taken))
 
 pub returns-in_err-finish-in-Err-Syntax : goal.returns-in_err-finish-in-Err-Syntax

@@ -65,7 +65,7 @@ loop-left-preserved g c =
     let all = c.keep_step.new.kept.items in
     let known = c.loop-left.invariant.known in
     let more = kept_step old new keeps (c.step_stays.ensures.known old new) (c.step_stays.ensures.same old new) c.args.keep kept all step known
-        c.in_ok-keep_step-in-Step.ensures in
+    c.in_ok-keep_step-in-Step.ensures in
     record {
       so_far = so_far_more so_far new c.take_line.new.version rows (step_at new step) (map (step_at new) all) c.show_last.new.watcher keeps
           c.loop-left.invariant.nodes taken.1 taken.2 c.in_ok-show_last-in-Step.ensures.seen more;
@@ -129,7 +129,7 @@ returns-in-Done-clause-shows g c =
     let new = g.S.Store.trees c.take_line.new.kernel.store in
     let keeps = g.met.S.Store.grows_keeps c.loop-left.kernel.store c.take_line.new.kernel.store c.take_line.ensures.grows in
     let same = steps_same old new keeps (c.step_stays.ensures.known old new) (c.step_stays.ensures.same old new) c.loop-left.kept.items
-        c.loop-left.invariant.known in
+    c.loop-left.invariant.known in
     let taken = rw c.in-Done.is at c.in_ok-take_line.ensures.taken in
     let so_far = rw (c.first_line.ensures.lines, ends.whole) at c.loop-left.invariant.so_far in
     rw taken.1 (ends_shown c.first_line.result.0.now so_far taken.0 _ same)

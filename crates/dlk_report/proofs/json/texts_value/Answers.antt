@@ -13,7 +13,7 @@ text_value-requires c =
     let texts = c.args.texts.now in
     let item = c.text-item.result in
     subst IsAscii (get_or-map bytes_of texts c.loop-text.text-index item [] c.loop-text-test.true ∙ ap bytes_of (sym c.text-item.is)
-        ∙ sym c.deref.ensures.value)
+    ∙ sym c.deref.ensures.value)
     (c.requires c.loop-text.text-index [] (simp length-map c.loop-text-test.true))
 
 pub returns : goal.returns

@@ -16,7 +16,7 @@ loop-at-preserved c =
 pub returns-in-Ok-clause-found : goal.returns-in-Ok-clause-found
 returns-in-Ok-clause-found c =
     rw c.into_parts.ensures (come_end c.args.bytes.now c.loop-at.at c.loop-at.state c.ended.new.self c.loop-at.invariant c.loop-at-test.false
-        c.in-Ok.ensures.done)
+    c.in-Ok.ensures.done)
 
 pub returns-in-Err-ended-clause-fault : goal.returns-in-Err-ended-clause-fault
 returns-in-Err-ended-clause-fault c =

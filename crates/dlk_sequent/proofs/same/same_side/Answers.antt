@@ -8,5 +8,5 @@ returns-then-not-same g c = (
   λ e. cc,
   λ e. absurd (both_ways c.same.result c.if-not-same.true
       (c.same.ensures.1 (same_at (g.S.Store.trees c.args.store.now) c.args.a.now c.args.b.now c.loop-i.i _ c.loop-i-test.true
-          (omega (arith, c.loop-i-test.true, c.if-a-b.false)) e))),
+      (omega (arith, c.loop-i-test.true, c.if-a-b.false)) e))),
 )

@@ -9,21 +9,21 @@ returns-then-has-clause-why g c =
 pub returns-then-has_dot_from-clause-why : goal.returns-then-has_dot_from-clause-why
 returns-then-has_dot_from-clause-why g c =
     chosen_is (g.S.Store.trees c.args.store.now) c.args.earlier.now c.args.pair.now c.if-not-is_of_kind.ensures.value c.if-has.ensures
-        c.if-has_dot_from.ensures refl refl
+    c.if-has_dot_from.ensures refl refl
 
 pub returns-then-has_stray_hole-clause-why : goal.returns-then-has_stray_hole-clause-why
 returns-then-has_stray_hole-clause-why g c =
     chosen_is (g.S.Store.trees c.args.store.now) c.args.earlier.now c.args.pair.now c.if-not-is_of_kind.ensures.value c.if-has.ensures
-        c.if-has_dot_from.ensures c.if-has_stray_hole.ensures refl
+    c.if-has_dot_from.ensures c.if-has_stray_hole.ensures refl
 
 pub returns-then-branch-clause-why : goal.returns-then-branch-clause-why
 returns-then-branch-clause-why g c =
     let taboo = sym c.if-branch.true ∙ c.in_ok-has_taboo.ensures in
     chosen_is (g.S.Store.trees c.args.store.now) c.args.earlier.now c.args.pair.now c.if-not-is_of_kind.ensures.value c.if-has.ensures
-        c.if-has_dot_from.ensures c.if-has_stray_hole.ensures taboo
+    c.if-has_dot_from.ensures c.if-has_stray_hole.ensures taboo
 
 pub returns-clause-why : goal.returns-clause-why
 returns-clause-why g c =
     let taboo = sym c.if-branch.false ∙ c.in_ok-has_taboo.ensures in
     chosen_is (g.S.Store.trees c.args.store.now) c.args.earlier.now c.args.pair.now c.if-not-is_of_kind.ensures.value c.if-has.ensures
-        c.if-has_dot_from.ensures c.if-has_stray_hole.ensures taboo
+    c.if-has_dot_from.ensures c.if-has_stray_hole.ensures taboo

@@ -8,10 +8,10 @@ pub loop-step-preserved : goal.loop-step-preserved
 loop-step-preserved c = record {
   same = λ trees. copied_more (step_at trees) c.args.steps.now c.loop-step.copies.items c.push.new.self.items c.loop-step.step-index c.step-item.result
       c.in_ok-copied.field-0 c.loop-step-test.true c.step-item.is c.in_ok-push.ensures.items (c.in_ok-copied.ensures.same trees)
-          (c.loop-step.invariant.same trees);
+      (c.loop-step.invariant.same trees);
   known = λ trees h. known_more (HasKnownIds trees) c.args.steps.now c.loop-step.copies.items c.push.new.self.items c.loop-step.step-index c.step-item.result
       c.in_ok-copied.field-0 c.loop-step-test.true c.step-item.is c.in_ok-push.ensures.items (c.in_ok-copied.ensures.known trees) h
-          (c.loop-step.invariant.known trees h);
+      (c.loop-step.invariant.known trees h);
 }
 
 pub returns-clause-same : goal.returns-clause-same

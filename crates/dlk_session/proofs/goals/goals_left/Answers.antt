@@ -16,7 +16,7 @@ returns-clause-goals g c =
 pub returns-clause-few : goal.returns-clause-few
 returns-clause-few g c =
     few_shown (map (provable_at (g.S.Store.trees c.args.kernel.now.store)) c.args.kernel.now.rows) (length c.goals.result.now) (returns-clause-goals g c)
-        c.rows.ensures.limited
+    c.rows.ensures.limited
 
 pub overflow_cast-result : goal.overflow_cast-result
 overflow_cast-result g c = let most : length c.goals.result.now ≤ most_goals = returns-clause-few g c in omega (arith, most)

@@ -4,7 +4,7 @@ use Rattle.dlk_session.proofs.goals.stated.Goals as goal
 pub unreachable-requires : goal.unreachable-requires
 unreachable-requires g c =
     not_refused g.S.Store.trees c.args.kernel.now c.in_ok-alone_right.field-0 c.args.model c.in-Err-Refused.field-0-0 c.requires.none
-        c.in_ok-alone_right.ensures
+    c.in_ok-alone_right.ensures
     c.requires.formula c.requires.small c.requires.shallow (rw c.in-Err-Refused.field-0-is at c.in-Err-Refused.ensures.fault)
 
 pub returns-in-Ok-clause-step : goal.returns-in-Ok-clause-step

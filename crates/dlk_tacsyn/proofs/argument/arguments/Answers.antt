@@ -17,7 +17,7 @@ loop-next-preserved g c =
       grows = g.met.S.Store.grows_trans c.args.store.now c.loop-next.store c.argument.new.store c.loop-next.invariant.grows c.in_ok-argument.ensures.grows;
       known = subst (All (ArgumentIsKnown new)) (sym c.in_ok-push.ensures.items)
           (All-push (ArgumentIsKnown new) c.loop-next.all.items c.in_ok-argument.argument
-              (arguments_known old new keeps c.loop-next.all.items c.loop-next.invariant.known) c.in_ok-argument.ensures.known);
+          (arguments_known old new keeps c.loop-next.all.items c.loop-next.invariant.known) c.in_ok-argument.ensures.known);
       goes = λ read reading.
           arguments_step read (arguments_of read c.args.row.wanted.now c.args.row.optional c.args.written)
           (arguments_of read c.loop-next.rest.wanted.now c.loop-next.rest.optional)

@@ -16,7 +16,7 @@ returns-in_ok-t-in-Close-clause-found g c =
     let frames = frame_kept old new keeps c.args.brackets.inner c.requires.inner in
     λ read reading.
     call_closed read c.args.part.at c.args.part.kind (stack_at old c.args.brackets.outer.items) (frame_at old c.args.brackets.inner) c.args.call
-        c.in-Some-2.written (tactic_at new c.in_ok-t-in-Close.t)
+    c.in-Some-2.written (tactic_at new c.in_ok-t-in-Close.t)
     c.in-Close.is (c.in_ok-written-in-Close.ensures.all ∙ c.in-Some-2.is) (c.in_ok-t-in-Close.ensures.found read reading)
     ∙ (λ i. Says (state (sym stacks i) (sym frames i) (Whole (tactic_at new c.in_ok-t-in-Close.t))))
 

@@ -22,15 +22,15 @@ returns-in_ok-t-in_default g c =
     record {
       found = ok_map
           (λ r. (trees : List Tree) → after_whole c.args.part.at kind (stack_at trees c.args.brackets.outer.items) (frame_at trees c.args.brackets.inner)
-              (tactic_at trees t) ≡ Says (state_at trees r))
+          (tactic_at trees t) ≡ Says (state_at trees r))
           (λ r. ByReading (λ read. after_name read c.args.part.at c.args.part.kind (stack_at old c.args.brackets.outer.items)
-              (frame_at old c.args.brackets.inner) c.args.at c.args.name ≡ Says (state_at new r)))
+          (frame_at old c.args.brackets.inner) c.args.at c.args.name ≡ Says (state_at new r)))
           (λ r p read reading.
           (λ i. after_name read c.args.part.at c.args.part.kind (sym stacks i) (sym frames i) c.args.at c.args.name)
           ∙ name_ended read c.args.part.at c.args.part.kind kind (stack_at new c.args.brackets.outer.items) (frame_at new c.args.brackets.inner) c.args.at
-              c.args.name (tactic_at new t) (Says (state_at new r))
+          c.args.name (tactic_at new t) (Says (state_at new r))
           refl c.in_default.not-Open (ap (atom_of read c.args.at c.args.name) (sym c.new-in_default.ensures) ∙ c.in_ok-t-in_default.ensures.found read reading)
-              (p new))
+          (p new))
           c.after_whole.result c.after_whole.ensures.found;
       known = ok_map
           (λ r. (trees : List Tree) → BracketsAreKnown trees c.args.brackets → TacticIsKnown trees t → ReaderIsKnown trees r) (ReaderIsKnown new)
@@ -38,21 +38,21 @@ returns-in_ok-t-in_default g c =
           c.after_whole.result c.after_whole.ensures.known;
       fault = err_map
           (IsTacSyntaxOf (λ f. (trees : List Tree) →
-              after_whole c.args.part.at kind (stack_at trees c.args.brackets.outer.items) (frame_at trees c.args.brackets.inner)
-              (tactic_at trees t) ≡ Fails f))
+          after_whole c.args.part.at kind (stack_at trees c.args.brackets.outer.items) (frame_at trees c.args.brackets.inner)
+          (tactic_at trees t) ≡ Fails f))
           (IsTacSyntaxOf (λ f. ByReading (λ read. after_name read c.args.part.at c.args.part.kind (stack_at old c.args.brackets.outer.items)
-              (frame_at old c.args.brackets.inner) c.args.at c.args.name ≡ Fails f)))
+          (frame_at old c.args.brackets.inner) c.args.at c.args.name ≡ Fails f)))
           (λ e p. weaken
           (λ f. (trees : List Tree) → after_whole c.args.part.at kind (stack_at trees c.args.brackets.outer.items) (frame_at trees c.args.brackets.inner)
-              (tactic_at trees t) ≡ Fails f)
+          (tactic_at trees t) ≡ Fails f)
           (λ f. ByReading (λ read. after_name read c.args.part.at c.args.part.kind (stack_at old c.args.brackets.outer.items)
-              (frame_at old c.args.brackets.inner) c.args.at c.args.name ≡ Fails f))
+          (frame_at old c.args.brackets.inner) c.args.at c.args.name ≡ Fails f))
           (λ f w read reading.
           (λ i. after_name read c.args.part.at c.args.part.kind (sym stacks i) (sym frames i) c.args.at c.args.name)
           ∙ name_ended read c.args.part.at c.args.part.kind kind (stack_at new c.args.brackets.outer.items) (frame_at new c.args.brackets.inner) c.args.at
-              c.args.name (tactic_at new t) (Fails f)
+          c.args.name (tactic_at new t) (Fails f)
           refl c.in_default.not-Open (ap (atom_of read c.args.at c.args.name) (sym c.new-in_default.ensures) ∙ c.in_ok-t-in_default.ensures.found read reading)
-              (w new))
+          (w new))
           e p)
           c.after_whole.result c.after_whole.ensures.fault;
       grows = c.in_ok-t-in_default.ensures.grows;

@@ -8,7 +8,7 @@ use Rattle.dlk_tacsyn.proofs.reader.after_whole.Goals as goal
 pub returns-in_ok-inner-in-Close-clause-known : goal.returns-in_ok-inner-in-Close-clause-known
 returns-in_ok-inner-in-Close-clause-known c =
     ok_map (λ r. (trees : List Tree) → BracketsAreKnown trees (record { outer = c.args.brackets.outer; inner = c.in_ok-inner-in-Close.inner }) →
-        ReaderIsKnown trees r)
+    ReaderIsKnown trees r)
     (λ r. (trees : List Tree) → BracketsAreKnown trees c.args.brackets → TacticIsKnown trees c.args.t → ReaderIsKnown trees r)
     (λ r p trees k t. p trees (record { outer = k.outer; inner = c.in_ok-inner-in-Close.ensures.known trees k.inner t }))
     c.close.result c.close.ensures.known

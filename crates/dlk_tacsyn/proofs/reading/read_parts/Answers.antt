@@ -25,9 +25,9 @@ loop-part-preserved g c = record {
   known = c.in_ok-reader.ensures.known;
   goes = λ read reading.
       run_next read (run read start c.args.parts.items) (state_at (g.S.Store.trees c.loop-part.store) c.loop-part.reader)
-          (state_at (g.S.Store.trees c.take.new.store) c.in_ok-reader.reader)
+      (state_at (g.S.Store.trees c.take.new.store) c.in_ok-reader.reader)
       c.in-Some.part (into_iter_items c.loop-part.part-iterator) (into_iter_items c.next.new.self) (c.loop-part.invariant.goes read reading)
-          c.in-Some.ensures.steps.0 (c.in_ok-reader.ensures.found read reading);
+      c.in-Some.ensures.steps.0 (c.in_ok-reader.ensures.found read reading);
 }
 
 pub returns-clause-found : goal.returns-clause-found
@@ -35,11 +35,11 @@ returns-clause-found g c =
     let none : length (into_iter_items c.loop-part.part-iterator) ≡ 0 = sym c.loop-part.part-iterator.rest.ok.0 ∙ c.in-None.ensures.steps.0 in
     let ended : into_iter_items c.loop-part.part-iterator ≡ [] = nil_of (into_iter_items c.loop-part.part-iterator) none in
     ok_map (λ t. ByReading (λ read. finish read (state_at (g.S.Store.trees c.loop-part.store) c.loop-part.reader) ≡ Says
-        (tactic_at (g.S.Store.trees c.finish.new.store) t)))
+    (tactic_at (g.S.Store.trees c.finish.new.store) t)))
     (λ t. ByReading (λ read. outcome_of read c.args.parts.items ≡ Says (tactic_at (g.S.Store.trees c.finish.new.store) t)))
     (λ t h read reading.
     run_ended read (run read start c.args.parts.items) (state_at (g.S.Store.trees c.loop-part.store) c.loop-part.reader)
-        (into_iter_items c.loop-part.part-iterator) (Says (tactic_at (g.S.Store.trees c.finish.new.store) t))
+    (into_iter_items c.loop-part.part-iterator) (Says (tactic_at (g.S.Store.trees c.finish.new.store) t))
     (c.loop-part.invariant.goes read reading) ended (h read reading))
     c.finish.result c.finish.ensures.found
 
@@ -50,10 +50,10 @@ returns-clause-fault g c =
     err_map (IsTacSyntaxOf (λ f. ByReading (λ read. finish read (state_at (g.S.Store.trees c.loop-part.store) c.loop-part.reader) ≡ Fails f)))
     (IsTacSyntaxOf (λ f. ByReading (λ read. outcome_of read c.args.parts.items ≡ Fails f)))
     (λ e h. weaken (λ f. ByReading (λ read. finish read (state_at (g.S.Store.trees c.loop-part.store) c.loop-part.reader) ≡ Fails f))
-        (λ f. ByReading (λ read. outcome_of read c.args.parts.items ≡ Fails f))
+    (λ f. ByReading (λ read. outcome_of read c.args.parts.items ≡ Fails f))
     (λ f w read reading.
     run_ended read (run read start c.args.parts.items) (state_at (g.S.Store.trees c.loop-part.store) c.loop-part.reader)
-        (into_iter_items c.loop-part.part-iterator) (Fails f)
+    (into_iter_items c.loop-part.part-iterator) (Fails f)
     (c.loop-part.invariant.goes read reading) ended (w read reading))
     e h)
     c.finish.result c.finish.ensures.fault

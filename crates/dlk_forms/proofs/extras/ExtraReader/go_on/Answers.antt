@@ -24,4 +24,4 @@ returns c = λ x h.
     let permitted = sym c.permits.ensures ∙ c.if-not-permits.false in
     let next : ExtraReader = record { extra = c.step.new.self; mode = mode } in
     when_ok (ShowsExtraAt c.step.new.self) ShowsExtra mode next (permits Allowed k) (extra_step x k) permitted (λ y s. s)
-        (c.in_ok-self.ensures x (rw c.replace-mode.ensures.value h))
+    (c.in_ok-self.ensures x (rw c.replace-mode.ensures.value h))

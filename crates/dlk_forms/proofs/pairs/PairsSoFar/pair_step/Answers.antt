@@ -10,7 +10,7 @@ pub returns-in-Left : goal.returns-in-Left
 returns-in-Left c = λ l x h.
     let s = subst (λ (m : PairMode). ShowsPair c.args.self.now l m x) c.in-Left.is h in
     rw s.state (left_agrees c.args.self.now l s.rests c.left_step.result (pair_step (left_state c.in-Left.mode) (seen c.args.lexeme))
-        c.left_step.ensures.agrees)
+    c.left_step.ensures.agrees)
 
 pub returns-in-LeftEnds : goal.returns-in-LeftEnds
 returns-in-LeftEnds c = λ l x h.

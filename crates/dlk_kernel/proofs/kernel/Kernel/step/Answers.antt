@@ -21,7 +21,7 @@ invariant_of-self-then-len-ge-MOST_ROWS g c =
 pub invariant_of-self-in_err-push : goal.invariant_of-self-in_err-push
 invariant_of-self-in_err-push g c =
     rw c.in_err-push.ensures.items (still_sound _ _ (g.met.S.Store.grows_keeps c.self.inside.store c.give.new.store c.give.ensures.grows) _ _ _ _
-        c.self.invariant c.give.ensures.named)
+    c.self.invariant c.give.ensures.named)
 
 pub invariant_of-self-2 : goal.invariant_of-self-2
 invariant_of-self-2 g c =
@@ -60,7 +60,7 @@ returns-in_err-push-clause-err g c =
 pub returns-clause-ok : goal.returns-clause-ok
 returns-clause-ok g c =
     rw (← c.self.view_is) (adds _ _ (g.met.S.Store.grows_keeps c.self.inside.store c.give.new.store c.give.ensures.grows) _ _ c.in_ok-row.row
-        c.self.invariant.are_sound _
+    c.self.invariant.are_sound _
     (rw c.as_slice.ensures.value at c.in_ok-row.ensures.given) c.in_ok-row.ensures.within (omega (arith, c.if-len-ge-MOST_ROWS.false, c.len.ensures))
     c.in_ok-push.ensures.items)
 

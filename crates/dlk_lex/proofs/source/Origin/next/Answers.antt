@@ -10,4 +10,4 @@ returns-else-is_end-clause-next c =
     let are = rw c.in-Tokens.is at c.requires in
     let rest = take_all (length ts - 1) (drop 1 ts) (omega (arith, length-drop 1 ts)) in
     rw c.in-Tokens.is (token_taken _ _ ts c.in_ok-token-in-Tokens.token _ refl rest are c.in_ok-token-in-Tokens.ensures
-        (fails_from c.is_end.ensures c.if-is_end.false))
+    (fails_from c.is_end.ensures c.if-is_end.false))

@@ -50,4 +50,4 @@ pub returns-clause-once : goal.returns-clause-once
 returns-clause-once c =
     let none = none_both _ _ c.args.id (subst (λ t. found t c.args.id ≡ None) (sym c.self.view_is) c.requires) in
     once_both (far_parts c.self.invariant c.args.id None c.insert.new.self.entries none.0 (λ k. c.in_ok-insert.ensures.updates.0 k)
-        c.in_ok-insert.ensures.unique)
+    c.in_ok-insert.ensures.unique)

@@ -64,21 +64,21 @@ pub sets_at-returns-in-Choice : goal.sets_at-returns-in-Choice
 sets_at-returns-in-Choice t c =
     let r = subst (λ op. IsRow op choice_row) (sym c.in-Choice.is) choice in
     of_two r c.args.name.now (trees_of c.args.self.now.nodes.items) _ c.node-node.result.kids.now _ _ _ c.or.ensures c.node-node.ensures.arity
-        c.node-node.ensures.node c.sets_at.ensures c.sets_at-in-Choice.ensures
+    c.node-node.ensures.node c.sets_at.ensures c.sets_at-in-Choice.ensures
 
 pub sets_at-returns-in-Seq : goal.sets_at-returns-in-Seq
 sets_at-returns-in-Seq t c =
     let r = subst (λ op. IsRow op sequence_row) (sym c.in-Seq.is) sequence in
     of_two r c.args.name.now (trees_of c.args.self.now.nodes.items) _ c.node-node.result.kids.now _ _ _ c.then.ensures c.node-node.ensures.arity
-        c.node-node.ensures.node c.sets_at-in-Seq.ensures c.sets_at-in-Seq-2.ensures
+    c.node-node.ensures.node c.sets_at-in-Seq.ensures c.sets_at-in-Seq-2.ensures
 
 pub sets_at-returns-in-Box : goal.sets_at-returns-in-Box
 sets_at-returns-in-Box t c =
     let op = c.node-node.result.op.now in
     let r = ⊎_elim (λ (is : op ≡ Box). subst (λ o. IsRow o modal_row) (sym is) box) (λ (is : op ≡ Dia). subst (λ o. IsRow o modal_row) (sym is) diamond)
-        c.in-Box.is in
+    c.in-Box.is in
     of_two r c.args.name.now (trees_of c.args.self.now.nodes.items) _ c.node-node.result.kids.now _ _ _ c.modal.ensures c.node-node.ensures.arity
-        c.node-node.ensures.node c.sets_at-in-Box.ensures c.sets_at-in-Box-2.ensures
+    c.node-node.ensures.node c.sets_at-in-Box.ensures c.sets_at-in-Box-2.ensures
 
 pub sets_at-returns-in_default : goal.sets_at-returns-in_default
 sets_at-returns-in_default t c = rw (c.of_kids-in_default.ensures, c.node-node.ensures.node) (search rules)

@@ -22,4 +22,4 @@ returns c =
     let asked = c.in_set-two.ensures ∙ ap (λ x. on x set) c.bytes.ensures.bytes in
     on_ok_weaker c.add_var-2.result
     (Adds-parts var_eq first rest (told set others (λ x. bytes_eq x name)) (told_name set others name two asked) c.args.vars.now.keys c.add_var.new.vars.keys
-        c.add_var-2.new.vars.keys c.in_ok-add_var.ensures) c.add_var-2.ensures
+    c.add_var-2.new.vars.keys c.in_ok-add_var.ensures) c.add_var-2.ensures

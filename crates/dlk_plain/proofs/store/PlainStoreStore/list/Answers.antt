@@ -44,13 +44,13 @@ returns c =
     let same_set = ap (set_of trees) c.of_tree-set.ensures ∙ asked_set trees c.args.which c.args.id in
     let rest : others ≡ set nowhere = ap (λ (two : Two). two.plain) c.in_set-others.ensures ∙ ap (λ s. s nowhere) same_set in
     let found = subst (λ (old : List (List ℕ)). Adds bytes_eq (λ x. is_named x t) old c.names_at.new.names.keys) c.new-names.ensures.empty
-        c.in_ok-names_at.ensures in
+    c.in_ok-names_at.ensures in
     let same_names = c.as_slice.ensures.value ∙ c.in_ok-names.ensures.items in
     let named : List ℕ → Bool = λ x. list_any (bytes_eq x) names in
     let found_are : (x : List ℕ) → is_named x t ≡ named x = λ x. sym (ap (λ (xs : List (List ℕ)). list_any (bytes_eq x) xs) same_names ∙ found.adds x) in
     let made = all_made nodes c.args.self.now.sound c.args.id.0 _ c.requires in
     let unnamed : (v : Var) → named v.name ≡ false → set v ≡ others = λ v h. alike c.args.which t made v (found_are v.name ∙ h) ∙ sym rest in
     let from_none = subst (λ (old : List Var). Adds var_eq (told (set_of trees c.of_tree-set.result) others named) old vars) c.new-vars.ensures.empty
-        c.in_ok-list_names.ensures in
+    c.in_ok-list_names.ensures in
     let adds = subst (λ (s : Var → Bool). Adds var_eq (told s others named) [] vars) same_set from_none in
     rw (c.new.ensures, c.in_ok-vars.ensures.items) (listing_of_names set others named vars unnamed c.vars_in_order.ensures.ordered adds)

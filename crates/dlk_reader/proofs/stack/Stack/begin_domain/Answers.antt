@@ -20,15 +20,15 @@ returns-in_err-settle c = λ S n l p k m at.
     let before = stack_code S ++ postfix_terms l in
     let a = c.in_err-settle.ensures p before m (at.out ∙ sym (append_assoc (stack_code S) (postfix_terms l) (piece_code p))) in
     rw (w.1, w.2) (agrees_err {X = Unit {0}} (λ _ t. Writes c.settle.new.out.items before t)
-        (Shows (record { parts = c.args.self.now.parts; out = c.settle.new.out })) c.in_err-settle.field-0.0 (as_sort Term p)
-        (λ t. items_step S n (add l (Evolve c.args.name t)) (Operator And)) a)
+    (Shows (record { parts = c.args.self.now.parts; out = c.settle.new.out })) c.in_err-settle.field-0.0 (as_sort Term p)
+    (λ t. items_step S n (add l (Evolve c.args.name t)) (Operator And)) a)
 
 pub returns-in_err-equations : goal.returns-in_err-equations
 returns-in_err-equations c = λ S n l p k m at.
     let r = c.from_residual-in_err-equations in
     let w = err_from_is_err_and r.result r.ensures.1 in
     rw (w.1, w.2) (evolves_err (Shows (record { parts = c.args.self.now.parts; out = c.settle.new.out })) c.args.equations c.args.name n l
-        c.in_err-equations.field-0.0 (close (Operator And) (Evolves n l c.args.name) S p) k c.in_err-equations.ensures)
+    c.in_err-equations.field-0.0 (close (Operator And) (Evolves n l c.args.name) S p) k c.in_err-equations.ensures)
 
 pub returns : goal.returns
 returns c = λ S n l p k m at.
@@ -38,4 +38,4 @@ returns c = λ S n l p k m at.
     let mid : Stack = record { parts = c.args.self.now.parts; out = c.settle.new.out } in
     let e = c.in_ok-equations.ensures n l (Evolve c.args.name w.0) k refl in
     rw w.1 (c.open.ensures S (Inside (Domain n (add l (Evolve c.args.name w.0)))) (ap (λ x. part.Inside (holder.Domain x)) e)
-        (settled_in S (Evolves n l c.args.name) w.0 c.args.self.now mid (piece_code p) at refl w.2))
+    (settled_in S (Evolves n l c.args.name) w.0 c.args.self.now mid (piece_code p) at refl w.2))

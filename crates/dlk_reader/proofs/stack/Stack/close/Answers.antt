@@ -13,8 +13,8 @@ returns-in_err-settle c = λ S h p k m at.
     let before = stack_code S ++ holder_code h in
     let a = c.in_err-settle.ensures p before m (at.out ∙ sym (append_assoc (stack_code S) (holder_code h) (piece_code p))) in
     rw (w.1, w.2) (close_err {X = Unit {0}} (λ _ t. Writes c.settle.new.out.items before t)
-        (Shows (record { parts = c.args.self.now.parts; out = c.settle.new.out })) c.args.closer h S p c.in_err-settle.field-0.0
-        (no_bracket c.args.holder h k c.in_default.not-Round) (rw (← c.held_sort.ensures h k) a))
+    (Shows (record { parts = c.args.self.now.parts; out = c.settle.new.out })) c.args.closer h S p c.in_err-settle.field-0.0
+    (no_bracket c.args.holder h k c.in_default.not-Round) (rw (← c.held_sort.ensures h k) a))
 
 pub returns : goal.returns
 returns c = λ S h p k m at.
@@ -23,4 +23,4 @@ returns c = λ S h p k m at.
     let w = agrees_ok {X = Unit {0}} (λ _ t. Writes c.settle.new.out.items before t) tt (as_sort c.held_sort.result p) a in
     let mid : Stack = record { parts = c.args.self.now.parts; out = c.settle.new.out } in
     c.close_settled.ensures S h p w.0 k (ap (λ s. as_sort s p) (sym (c.held_sort.ensures h k)) ∙ w.1) (no_bracket c.args.holder h k c.in_default.not-Round)
-        (settled_in S h w.0 c.args.self.now mid (piece_code p) at refl w.2)
+    (settled_in S h w.0 c.args.self.now mid (piece_code p) at refl w.2)

@@ -43,7 +43,7 @@ returns-in_ok-equations-in-Brace-Evolves c = λ S h p t k e b at.
     let o = c.in_ok-equations-in-Brace-Evolves in
     let n = c.end_system in
     rw i.is-0 (evolves_brace i.equations o.equations i.name c.args.self.now n.new.self (leaving n.new.mode n.result) S h p t (sym i.is-1 ∙ k) e at o.ensures
-        n.ensures)
+    n.ensures)
 
 pub returns-in_ok-equations-in-Comma-Evolves : goal.returns-in_ok-equations-in-Comma-Evolves
 returns-in_ok-equations-in-Comma-Evolves c = λ S h p t k e b at.

@@ -12,4 +12,4 @@ returns c = λ S h.
     let e = Inside (Assigns c.args.name false) in
     rw (gets_other c.args.goal S c.args.name c.args.lexeme (sym c.is_star-star.ensures ∙ c.if-star.false))
     (c.start_operand.ensures.agrees (e ∷ S) (opened S e c.args.self.now (record { parts = c.push.new.self; out = c.args.self.now.out }) h
-        c.in_ok-push.ensures.items refl))
+    c.in_ok-push.ensures.items refl))

@@ -20,4 +20,4 @@ pub returns-clause-fits : goal.returns-clause-fits
 returns-clause-fits c =
     let there = others_there c.args.words.now c.args.self (length c.form.result.inputs.now) (ap (λ (f : Form). length f.inputs) c.form.ensures) in
     subst (λ (ws : List (List ℕ)). IsTrue (ends_in (form_of c.args.self).last ws)) (sym there)
-        (others_end (map string_bytes c.args.words.now) c.args.self c.requires)
+    (others_end (map string_bytes c.args.words.now) c.args.self c.requires)

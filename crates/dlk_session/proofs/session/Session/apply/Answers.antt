@@ -28,7 +28,7 @@ invariant_of-self-in-Err-Fails g c =
     let keeps = g.met.S.Store.grows_keeps c.self.inside.kernel.store c.run_on.new.kernel.store c.run_on.ensures.grows in
     let t = tactic_at (trees c.self.inside.kernel.store) c.args.strategy.now in
     rw c.reserve.ensures.items (ran_fails known same trees g.R.Runner.becomes c.laws.ensures.taken c.laws.ensures.counted c.laws.ensures.failed _
-        c.self.inside.shared c.self.invariant c.args.goal t there c.run_on.new.kernel keeps
+    c.self.inside.shared c.self.invariant c.args.goal t there c.run_on.new.kernel keeps
     c.in-Err-Fails.at c.in-Err-Fails.used c.in-Err-Fails.why c.in-Err-Fails.ensures.err (rw c.in-Err-Fails.field-0-is at c.in-Err-Fails.ensures.fault)).holds
 
 pub returns-in-Err-Fails-clause-applies : goal.returns-in-Err-Fails-clause-applies
@@ -40,8 +40,8 @@ returns-in-Err-Fails-clause-applies g c =
     let keeps = g.met.S.Store.grows_keeps c.self.inside.kernel.store c.run_on.new.kernel.store c.run_on.ensures.grows in
     let t = tactic_at (trees c.self.inside.kernel.store) c.args.strategy.now in
     rw (c.reserve.ensures.items, ← c.self.view_is)
-        (ran_fails known same trees g.R.Runner.becomes c.laws.ensures.taken c.laws.ensures.counted c.laws.ensures.failed _ c.self.inside.shared
-        c.self.invariant c.args.goal t there c.run_on.new.kernel keeps
+    (ran_fails known same trees g.R.Runner.becomes c.laws.ensures.taken c.laws.ensures.counted c.laws.ensures.failed _ c.self.inside.shared
+    c.self.invariant c.args.goal t there c.run_on.new.kernel keeps
     c.in-Err-Fails.at c.in-Err-Fails.used c.in-Err-Fails.why c.in-Err-Fails.ensures.err (rw c.in-Err-Fails.field-0-is at c.in-Err-Fails.ensures.fault)).applies
 
 pub invariant_of-self-in-Err-Budget : goal.invariant_of-self-in-Err-Budget
@@ -53,7 +53,7 @@ invariant_of-self-in-Err-Budget g c =
     let keeps = g.met.S.Store.grows_keeps c.self.inside.kernel.store c.run_on.new.kernel.store c.run_on.ensures.grows in
     let t = tactic_at (trees c.self.inside.kernel.store) c.args.strategy.now in
     rw c.reserve.ensures.items (ran_spent known same trees g.R.Runner.becomes c.laws.ensures.taken c.laws.ensures.counted c.laws.ensures.failed _
-        c.self.inside.shared c.self.invariant c.args.goal t there c.run_on.new.kernel keeps
+    c.self.inside.shared c.self.invariant c.args.goal t there c.run_on.new.kernel keeps
     c.in-Err-Budget.at c.in-Err-Budget.ensures.err (rw c.in-Err-Budget.field-0-is at c.in-Err-Budget.ensures.fault)).holds
 
 pub returns-in-Err-Budget-clause-applies : goal.returns-in-Err-Budget-clause-applies
@@ -65,8 +65,8 @@ returns-in-Err-Budget-clause-applies g c =
     let keeps = g.met.S.Store.grows_keeps c.self.inside.kernel.store c.run_on.new.kernel.store c.run_on.ensures.grows in
     let t = tactic_at (trees c.self.inside.kernel.store) c.args.strategy.now in
     rw (c.reserve.ensures.items, ← c.self.view_is)
-        (ran_spent known same trees g.R.Runner.becomes c.laws.ensures.taken c.laws.ensures.counted c.laws.ensures.failed _ c.self.inside.shared
-        c.self.invariant c.args.goal t there c.run_on.new.kernel keeps
+    (ran_spent known same trees g.R.Runner.becomes c.laws.ensures.taken c.laws.ensures.counted c.laws.ensures.failed _ c.self.inside.shared
+    c.self.invariant c.args.goal t there c.run_on.new.kernel keeps
     c.in-Err-Budget.at c.in-Err-Budget.ensures.err (rw c.in-Err-Budget.field-0-is at c.in-Err-Budget.ensures.fault)).applies
 
 pub invariant_of-self-in-Err-Memory : goal.invariant_of-self-in-Err-Memory
@@ -90,10 +90,10 @@ invariant_of-self-in-Ok g c =
     let keeps = g.met.S.Store.grows_keeps c.self.inside.kernel.store c.run_on.new.kernel.store c.run_on.ensures.grows in
     let t = tactic_at (trees c.self.inside.kernel.store) c.args.strategy.now in
     (ran_done known same trees g.R.Runner.becomes c.laws.ensures.taken c.laws.ensures.counted c.laws.ensures.failed _ c.self.inside.shared c.self.invariant
-        c.args.goal t there c.run_on.new.kernel keeps
+    c.args.goal t there c.run_on.new.kernel keeps
     c.in-Ok.more.steps.items c.append.new.self.items c.push.new.self.items c.mark-mark.result c.in-Ok.more.used c.in-Ok.more.count c.goals_left-in-Ok.result
     c.in-Ok-append.ensures.items (c.in-Ok-push.ensures.items ∙ ap (λ xs. xs ++ c.mark-mark.result ∷ []) c.reserve.ensures.items) c.mark-mark.ensures
-        c.in-Ok.ensures.known c.in-Ok.ensures.done c.goals_left-in-Ok.ensures.goals).holds
+    c.in-Ok.ensures.known c.in-Ok.ensures.done c.goals_left-in-Ok.ensures.goals).holds
 
 pub returns-in-Ok-push-clause-applies : goal.returns-in-Ok-push-clause-applies
 returns-in-Ok-push-clause-applies g c =
@@ -104,10 +104,10 @@ returns-in-Ok-push-clause-applies g c =
     let keeps = g.met.S.Store.grows_keeps c.self.inside.kernel.store c.run_on.new.kernel.store c.run_on.ensures.grows in
     let t = tactic_at (trees c.self.inside.kernel.store) c.args.strategy.now in
     rw (← c.self.view_is) (ran_done known same trees g.R.Runner.becomes c.laws.ensures.taken c.laws.ensures.counted c.laws.ensures.failed _
-        c.self.inside.shared c.self.invariant c.args.goal t there c.run_on.new.kernel keeps
+    c.self.inside.shared c.self.invariant c.args.goal t there c.run_on.new.kernel keeps
     c.in-Ok.more.steps.items c.append.new.self.items c.push.new.self.items c.mark-mark.result c.in-Ok.more.used c.in-Ok.more.count c.goals_left-in-Ok.result
     c.in-Ok-append.ensures.items (c.in-Ok-push.ensures.items ∙ ap (λ xs. xs ++ c.mark-mark.result ∷ []) c.reserve.ensures.items) c.mark-mark.ensures
-        c.in-Ok.ensures.known c.in-Ok.ensures.done c.goals_left-in-Ok.ensures.goals).applies
+    c.in-Ok.ensures.known c.in-Ok.ensures.done c.goals_left-in-Ok.ensures.goals).applies
 
 pub invariant_of-self-in_default : goal.invariant_of-self-in_default
 invariant_of-self-in_default g c =
@@ -116,7 +116,7 @@ invariant_of-self-in_default g c =
     let keeps = subst (λ s. Keeps (trees old.store) (trees s)) (sym c.release.ensures.store)
     (g.met.S.Store.grows_keeps old.store c.run_on.new.kernel.store c.run_on.ensures.grows) in
     let rows = rows_back trees old c.run_on.new.kernel c.release.new.self c.mark-mark.result c.in-Ok.ensures.kept c.mark-mark.ensures c.release.ensures.rows
-        c.release.ensures.store in
+    c.release.ensures.store in
     rw (c.in_default.ensures.items, c.reserve.ensures.items) (still_shared c.step_stays.ensures.known c.step_stays.ensures.same trees _ c.release.new.self
     c.self.inside.shared c.self.invariant keeps rows)
 
@@ -127,7 +127,7 @@ returns-in_default-clause-err g c =
     let keeps = subst (λ s. Keeps (trees old.store) (trees s)) (sym c.release.ensures.store)
     (g.met.S.Store.grows_keeps old.store c.run_on.new.kernel.store c.run_on.ensures.grows) in
     let rows = rows_back trees old c.run_on.new.kernel c.release.new.self c.mark-mark.result c.in-Ok.ensures.kept c.mark-mark.ensures c.release.ensures.rows
-        c.release.ensures.store in
+    c.release.ensures.store in
     rw (c.in_default.ensures.items, c.reserve.ensures.items, ← c.self.view_is)
-        (same_state c.step_stays.ensures.known c.step_stays.ensures.same trees _ c.release.new.self
+    (same_state c.step_stays.ensures.known c.step_stays.ensures.same trees _ c.release.new.self
     c.self.invariant.0 keeps rows)

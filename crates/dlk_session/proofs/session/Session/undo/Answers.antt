@@ -27,5 +27,5 @@ invariant_of-self-2 g c = (
 pub returns-clause-undoes : goal.returns-clause-undoes
 returns-clause-undoes g c =
     rw (c.goals_left.ensures.goals, ← c.self.view_is)
-        (run_undone g.S.Store.trees _ c.self.invariant.0 c.pop.new.self.items c.in-Some.count c.in-Some.ensures.items
+    (run_undone g.S.Store.trees _ c.self.invariant.0 c.pop.new.self.items c.in-Some.count c.in-Some.ensures.items
     c.release.new.self c.truncate.new.self.items c.release.ensures.store c.release.ensures.rows c.truncate.ensures.items)

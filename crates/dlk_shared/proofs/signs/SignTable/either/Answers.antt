@@ -14,8 +14,11 @@ itself false = refl
 pub returns-then-a-b-clause-signs : goal.returns-then-a-b-clause-signs
 returns-then-a-b-clause-signs c =
     let old = c.args.self.now in
-    record { is = c.requires.first; members =
-        λ s. sym (ap (λ n. sign_at old c.args.a s || sign_at old n s) (sym c.if-a-b.true) ∙ itself (sign_at old c.args.a s)) }
+    record {
+      is = c.requires.first;
+      members =
+          λ s. sym (ap (λ n. sign_at old c.args.a s || sign_at old n s) (sym c.if-a-b.true) ∙ itself (sign_at old c.args.a s));
+    }
 
 pub returns-then-is_none-clause-signs : goal.returns-then-is_none-clause-signs
 returns-then-is_none-clause-signs c =

@@ -15,7 +15,7 @@ returns-clause-found g c =
     λ read reading.
     finish_ended read (state_at old c.args.self) (tactic_at new c.in_ok-t.t) (frame_at new c.in_ok-inner.inner) (tactic_at new c.closed.result)
     (c.in_ok-t.ensures.found read reading) (ap (λ z. end_choice z (tactic_at new c.in_ok-t.t)) (sym frames) ∙ c.in_ok-inner.ensures.ended new)
-        (sym (c.closed.ensures.closed new))
+    (sym (c.closed.ensures.closed new))
 
 pub returns-clause-known : goal.returns-clause-known
 returns-clause-known g c =
@@ -23,4 +23,4 @@ returns-clause-known g c =
     let new = g.S.Store.trees c.settled.new.store in
     let keeps = g.met.S.Store.grows_keeps c.args.store.now c.settled.new.store c.in_ok-t.ensures.grows in
     c.closed.ensures.known new (c.in_ok-inner.ensures.known new (frame_known old new keeps c.args.self.brackets.inner c.requires.brackets.inner)
-        c.in_ok-t.ensures.known)
+    c.in_ok-t.ensures.known)
