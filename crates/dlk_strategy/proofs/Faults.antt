@@ -1,11 +1,16 @@
 -- Faults of runs, by those of atoms and of plans.
-use Rattle.std.proofs.Common.{◌≡◌, ℕ, ◌+◌, ◌<◌, List, [], ◌∷◌, length, sym, subst}
-use Rattle.std.specs.Prelude.{Result, Ok, Err}
+use Rattle.std.proofs.Common.{◌≡◌, ℕ, ◌+◌, ◌<◌, List, [], ◌∷◌, length, inl, inr, refl, sym, subst}
+use Rattle.std.specs.Prelude.{IsTrue, Result, Ok, Err}
+use Rattle.dlk_tree.specs.Trees.{Tree}
+use Rattle.dlk_calculus.specs.Pairs.{Extra}
 use Rattle.dlk_calculus.specs.Places.{At}
+use Rattle.dlk_calculus.specs.Provables.{Provable}
 use Rattle.dlk_calculus.specs.Sequents.{Sequent}
+use Rattle.dlk_calculus.specs.Steps.{Step}
 use Rattle.dlk_sequent.specs.declared.sequent.Place.{Place}
 use Rattle.dlk_tacsyn.specs.Tactics.{AtPlace, Atom}
-use Rattle.dlk_uses.specs.Uses.{formula_at}
+use Rattle.dlk_tacsyn.specs.Rows.{is_use}
+use Rattle.dlk_uses.specs.Uses.{Use, formula_at}
 use Rattle.dlk_derive.specs.declared.fault.DeriveFault.{DeriveFault}
 use Rattle.dlk_derive.specs.declared.fault.DeriveFault.TheVariants as plan_fault
 use Rattle.dlk_derive.specs.Derives.{DeriveWhy, NoPlan}
@@ -15,8 +20,10 @@ use Rattle.dlk_elab.specs.declared.fault.FailWhy.{FailWhy}
 use Rattle.dlk_elab.specs.declared.fault.FailWhy.TheVariants as fail
 use Rattle.dlk_elab.specs.declared.fault.TacFault.{TacFault}
 use Rattle.dlk_elab.specs.declared.fault.TacFault.TheVariants as atom_fault
-use Rattle.dlk_elab.specs.Atoms.{AtomFault}
-use Rattle.dlk_elab.specs.Ties.{IsTacFault}
+use Rattle.dlk_elab.specs.Atoms.{Asked, Instance, Asks, use_axiom, AtomSteps, uses, AtomFault}
+use Rattle.dlk_elab.specs.Atoms.{asked as by_asking}
+use Rattle.dlk_elab.specs.Ties.{IsTacFault, AsksOrUses}
+use Rattle.dlk_elab.proofs.CallsFit.{named_use}
 use Rattle.dlk_strategy.specs.declared.fault.RunFault.{RunFault}
 use Rattle.dlk_strategy.specs.declared.fault.RunFault.TheVariants as run_fault
 use Rattle.dlk_strategy.specs.Runs.{Progress, Fails, Once, RunDerive, no_plan, most_runs, main_goals}
@@ -63,3 +70,31 @@ module _ (atom : Atom) (goal : ℕ) (now after : Progress) (s : Sequent) (place 
   plan_fails plan_fault.WrongShape h = fails_for derive.WrongShape h
   plan_fails plan_fault.NoMatch h = fails_for derive.NoMatch h
   plan_fails plan_fault.Memory h = tt
+
+-- a run's fault is want of memory only where that of its atom is
+pub memory_of_atom : (at : ℕ) (why : TacFault) → of_atom at why ≡ run_fault.Memory → why ≡ atom_fault.Memory
+memory_of_atom at atom_fault.UnknownName is = absurd (cc is)
+memory_of_atom at atom_fault.NoPlace is = absurd (cc is)
+memory_of_atom at atom_fault.NoMatch is = absurd (cc is)
+memory_of_atom at (atom_fault.Step why) is = absurd (cc is)
+memory_of_atom at atom_fault.Memory is = refl
+
+-- or that of its plan
+pub memory_of_plan : (at : ℕ) (why : DeriveFault) → of_plan at why ≡ run_fault.Memory → why ≡ plan_fault.Memory
+memory_of_plan at plan_fault.NoPlace is = absurd (cc is)
+memory_of_plan at plan_fault.WrongShape is = absurd (cc is)
+memory_of_plan at plan_fault.NoMatch is = absurd (cc is)
+memory_of_plan at plan_fault.Memory is = refl
+
+-- an atom that asks for an instance uses an axiom
+asks_by_use : (rows fact goal : ℕ) (s : Sequent) (atom : Atom) (u : Use) (x : Extra) (e : Tree) (wanted : Asked) → Asks rows fact goal s atom wanted →
+    wanted ≡ Instance u x e → IsTrue (is_use atom.name)
+asks_by_use rows fact goal s atom u x e _ (use_axiom v f t y is there may match) q = named_use atom.name v.direction is.names.0
+asks_by_use rows fact goal s atom u x e _ asks q = absurd (cc q)
+
+-- an atom that gives steps asks for them, or uses an axiom
+pub steps_are_asked : (rows : List Provable) (fact goal : ℕ) (atom : Atom) (steps : List Step) (after : List Provable) →
+    AtomSteps rows fact goal atom steps after → AsksOrUses rows fact goal atom
+steps_are_asked rows fact goal atom steps after (by_asking s is asks takes) = inl (record { s = s; is_goal = is; steps = steps; asks = asks })
+steps_are_asked rows fact goal atom _ after (uses s used extra e between rest is asks first behind then_on) =
+    inr (asks_by_use (length rows) fact goal s atom used extra e (Instance used extra e) asks refl)

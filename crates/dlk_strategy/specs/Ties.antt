@@ -2,14 +2,21 @@
 pub use Rattle.dlk_elab.specs.Ties.{progress_at}
 use Rattle.std.specs.Prelude.{◌≡◌, ◌≤◌, ℕ, ◌+◌, List, [], ◌∷◌, take, length, All, Option, Some, None, Result, Ok, Err}
 use Rattle.dlk_tree.specs.Trees.{Tree}
+use Rattle.dlk_sequent.specs.declared.sequent.Place.{Place}
 use Rattle.dlk_calculus.specs.Limits.{most_goals}
+use Rattle.dlk_calculus.specs.Places.{At}
+use Rattle.dlk_calculus.specs.Provables.{Provable}
+use Rattle.dlk_calculus.specs.Sequents.{Sequent}
 use Rattle.dlk_rules.specs.Steps.{HasKnownIds}
 use Rattle.dlk_kernel.specs.Kernel.{State, facts, ExtendsRows, SameRows}
 use Rattle.dlk_tacsyn.specs.declared.tactic.Tactic.{Tactic}
-use Rattle.dlk_tacsyn.specs.Tactics.{Atom as TreeAtom, Tactic as TreeTactic, Choice as TheChoice, Sequence, Branch as TheBranch}
+use Rattle.dlk_tacsyn.specs.Tactics.{AtPlace, Atom as TreeAtom, Tactic as TreeTactic, Choice as TheChoice, Sequence, Branch as TheBranch}
 use Rattle.dlk_tacsyn.specs.Tactics.{Repeat as TheRepeat, One as TheOne, Tactics, no_parts, part, count}
 use Rattle.dlk_tacsyn.specs.Rows.{AreRun, AreOfText}
 use Rattle.dlk_tacsyn.specs.Ties.{tactic_at, TacticIsKnown}
+use Rattle.dlk_uses.specs.Uses.{formula_at}
+use Rattle.dlk_derive.specs.Plans.{Call}
+use Rattle.dlk_derive.specs.Derives.{Plans}
 use Rattle.dlk_elab.specs.declared.fault.FailWhy.{FailWhy}
 use Rattle.dlk_elab.specs.declared.outcome.OnFault.{OnFault}
 use Rattle.dlk_elab.specs.declared.outcome.OnFault.TheVariants as on_fault
@@ -74,6 +81,16 @@ pub record IsStrategy (trees : List Tree) (t : Tactic) : Type 0 where
 -- the atom, where its name stands at this byte
 abbrev pub at_byte : ℕ → TreeAtom → TreeAtom
 at_byte byte atom = record { name = atom.name; arguments = atom.arguments; at = byte }
+
+-- on this goal of the last row there is a plan for `derive`, at the place and the path that the atom is given
+pub record HasPlan (rows : List Provable) (goal : ℕ) (atom : TreeAtom) : Type 0 where
+  pub s : Sequent
+  pub place : Place
+  pub path : List ℕ
+  pub calls : List Call
+  pub stands : At (main_goals rows) goal s
+  pub given : atom.arguments ≡ AtPlace place path ∷ []
+  pub planned : Plans (formula_at s place) path calls
 
 -- strategies in a list
 abbrev pub tactics_of : List Tree → List Tactic → Tactics

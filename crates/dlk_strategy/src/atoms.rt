@@ -1,5 +1,5 @@
 //! Runs of atoms.
-ghost use Rattle.std.specs.Prelude.{◌≡◌, ◌≤◌, ◌+◌, ◌++◌, ℕ, List, length, map, take, All, Option, Some, None, IfOk, OnOk, IfNone, IfSome, MatchOption};
+ghost use Rattle.std.specs.Prelude.{◌≡◌, ◌≤◌, ◌+◌, ◌++◌, ℕ, List, length, map, take, All, Option, Some, None, Err, IfOk, OnOk, IfNone, IfSome, MatchOption};
 ghost use Rattle.dlk_tree.specs.Trees.{Tree};
 ghost use Rattle.dlk_calculus.specs.Limits.{most_goals};
 ghost use Rattle.dlk_calculus.specs.Places.{At, IsPlace};
@@ -8,6 +8,8 @@ ghost use Rattle.dlk_kernel.specs.Kernel.{facts, ExtendsRows};
 ghost use Rattle.dlk_tacsyn.specs.Rows.{IsFitting};
 ghost use Rattle.dlk_tacsyn.specs.Ties.{argument_at, ArgumentIsKnown, atom_at, AtomIsKnown};
 ghost use Rattle.dlk_elab.specs.Atoms.{HasNoLocator};
+ghost use Rattle.dlk_elab.specs.Ties.{AsksOrUses};
+ghost use Rattle.dlk_strategy.specs.declared.fault.RunFault.TheVariants.{Memory};
 ghost use Rattle.dlk_strategy.specs.Runs.{main_goals, formulas, side_of, side, put_place, placed, Once, TriesAll, RunAtom};
 ghost use Rattle.dlk_strategy.specs.Ties.{goals_of, now, IsReady, Extends, IsBack, Becomes, UnlessOver, HasLeft, IsBackOnFailure};
 
@@ -36,6 +38,12 @@ fn append(into: &mut Vec<Step>, from: Vec<Step>) -> Result<(), AllocError>
 }
 
 /// One run of an atom without a locator, on a goal of the last row. It is counted.
+///
+/// # Errors
+///
+/// - `Fails`: the atom gives no steps, for this reason. The byte is that of the atom.
+/// - `Budget`: 16,000 runs were counted, and this one, at the byte of the atom, would be one more. It isn't counted.
+/// - `Memory`: for want of memory, where the atom asks for steps or uses an axiom.
 fn run_once<S: Store, L: Ledger>(
     alloc: Global,
     kernel: &mut Kernel<S>,
@@ -49,6 +57,7 @@ fn run_once<S: Store, L: Ledger>(
     requires fitting { IsFitting (atom_at (S.trees kernel.old.store) atom.now) }
     requires fixed { HasNoLocator (atom_at (S.trees kernel.old.store) atom.now) }
     ensures fate { Becomes (Once (atom_at (S.trees kernel.old.store) atom.now) goal) (now S.trees kernel.old trace.old) (now S.trees kernel.new trace.new) result }
+    ensures memory { result ≡ Err Memory → AsksOrUses (facts S.trees kernel.old) (length kernel.old.rows) goal (atom_at (S.trees kernel.old.store) atom.now) }
     ensures extends { UnlessOver (Extends S.trees kernel.old trace.old kernel.new trace.new) result }
     ensures rows { ExtendsRows S.trees kernel.old kernel.new }
     ensures back { IsBackOnFailure (IsBack S.trees kernel.old trace.old kernel.new trace.new) result }

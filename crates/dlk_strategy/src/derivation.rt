@@ -1,12 +1,13 @@
 //! Runs of `derive`.
-ghost use Rattle.std.specs.Prelude.{◌≡◌, ◌≢◌, ◌≤◌, ◌∷◌, [], ℕ, List, map, All, IfOk, IfSome, IfNone, OnOk};
+ghost use Rattle.std.specs.Prelude.{◌≡◌, ◌≢◌, ◌≤◌, ◌∷◌, [], ℕ, List, map, All, Err, IfOk, IfSome, IfNone, OnOk};
 ghost use Rattle.dlk_calculus.specs.Limits.{most_goals};
-ghost use Rattle.dlk_kernel.specs.Kernel.{ExtendsRows};
+ghost use Rattle.dlk_kernel.specs.Kernel.{facts, ExtendsRows};
 ghost use Rattle.dlk_sequent.specs.declared.sequent.Place.{Place as ThePlace};
 ghost use Rattle.dlk_tacsyn.specs.Rows.{IsFitting, IsDerivation, IsRun};
 ghost use Rattle.dlk_tacsyn.specs.Ties.{atom_at, AtomIsKnown};
+ghost use Rattle.dlk_strategy.specs.declared.fault.RunFault.TheVariants.{Memory};
 ghost use Rattle.dlk_strategy.specs.Runs.{OnEach, OneByOne, RunAtom, RunDerive, RunNamed};
-ghost use Rattle.dlk_strategy.specs.Ties.{goals_of, now, at_byte, IsReady, Extends, Becomes, UnlessOver, HasLeft};
+ghost use Rattle.dlk_strategy.specs.Ties.{goals_of, now, at_byte, IsReady, Extends, Becomes, UnlessOver, HasLeft, HasPlan};
 
 use crate::atoms::{MOST_RUNS, run_atom};
 use crate::fault::{RunFault, of_plan};
@@ -60,6 +61,12 @@ fn place_of(args: &[Arg]) -> Option<(Place, &[u32])>
 }
 
 /// Runs `derive` on a goal of the last row. It is counted, and so is each use of an axiom by which it goes on.
+///
+/// # Errors
+///
+/// - `Fails`: there is no plan, for this reason, or one of the uses fails. The byte is that of the name.
+/// - `Budget`: 16,000 runs were counted, and this one or one of the uses, at the byte of the name, would be one more. It isn't counted.
+/// - `Memory`: for want of memory, where there is a plan.
 fn derive<S: Store, L: Ledger>(
     alloc: Global,
     kernel: &mut Kernel<S>,
@@ -71,6 +78,7 @@ fn derive<S: Store, L: Ledger>(
     requires ready { IsReady S.trees kernel.old trace.old goal 1 }
     requires derivation { IsDerivation (atom_at (S.trees kernel.old.store) atom.now) }
     ensures fate { Becomes (RunDerive (atom_at (S.trees kernel.old.store) atom.now) goal) (now S.trees kernel.old trace.old) (now S.trees kernel.new trace.new) result }
+    ensures memory { result ≡ Err Memory → HasPlan (facts S.trees kernel.old) goal (atom_at (S.trees kernel.old.store) atom.now) }
     ensures extends { UnlessOver (Extends S.trees kernel.old trace.old kernel.new trace.new) result }
     ensures rows { ExtendsRows S.trees kernel.old kernel.new }
     ensures left { IfOk result (HasLeft (goals_of S.trees kernel.old) 1 (goals_of S.trees kernel.new)) }

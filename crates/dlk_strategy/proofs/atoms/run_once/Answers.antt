@@ -1,15 +1,17 @@
-use Rattle.std.proofs.Common.{ℕ, ◌+◌, ◌-◌, map, take, length, refl, sym, ap, subst, ◌∙◌, arith}
+use Rattle.std.proofs.Common.{◌≡◌, ℕ, ◌+◌, ◌-◌, map, take, length, refl, sym, ap, subst, ◌∙◌, arith}
 use Rattle.std.specs.Prelude.{Err}
 use Rattle.std.proofs.lemmas.List.{length-map}
 use Rattle.std.proofs.Math.Seq.{take-append_seam, take-length}
 use Rattle.dlk_rules.specs.Steps.{step_at}
 use Rattle.dlk_kernel.specs.Kernel.{facts, provable_at}
 use Rattle.dlk_tacsyn.specs.Ties.{atom_at}
+use Rattle.dlk_elab.specs.Ties.{AsksOrUses}
 use Rattle.dlk_strategy.specs.declared.fault.RunFault.{RunFault}
+use Rattle.dlk_strategy.specs.declared.fault.RunFault.TheVariants.{Memory}
 use Rattle.dlk_strategy.specs.Runs.{spent, Once}
 use Rattle.dlk_strategy.specs.Ties.{now, Becomes, Extends, IsBack}
 use Rattle.dlk_strategy.proofs.States.{steps_known, steps_more, known_more, goal_there, counted_as, of_last, once_done, same_extends}
-use Rattle.dlk_strategy.proofs.Faults.{unless_over, back_on_failure, atom_fails}
+use Rattle.dlk_strategy.proofs.Faults.{unless_over, back_on_failure, atom_fails, memory_of_atom, steps_are_asked}
 use Rattle.dlk_strategy.proofs.atoms.run_once.Goals as goal
 
 pub returns-then-trace-ge-MOST_RUNS-clause-fate : goal.returns-then-trace-ge-MOST_RUNS-clause-fate
@@ -103,3 +105,21 @@ returns-in-Err-clause-back g c =
       counted = omega arith;
       within = omega (arith, c.if-trace-ge-MOST_RUNS.false);
     })
+
+pub returns-in_err-append-in-Ok-clause-memory : goal.returns-in_err-append-in-Ok-clause-memory
+returns-in_err-append-in-Ok-clause-memory g c = λ is.
+    let trees = g.S.Store.trees in
+    let rows = facts trees c.args.kernel.now in
+    let atom = atom_at (trees c.args.kernel.now.store) c.args.atom.now in
+    subst (λ n. AsksOrUses rows n c.args.goal atom) c.rows-fact.ensures.count
+    (steps_are_asked rows c.rows-fact.result c.args.goal atom (map (step_at (trees c.elaborate.new.kernel.store)) c.in-Ok.made.steps.items)
+    (facts trees c.elaborate.new.kernel) c.in-Ok.ensures.made)
+
+pub returns-in-Err-clause-memory : goal.returns-in-Err-clause-memory
+returns-in-Err-clause-memory g c = λ is.
+    let trees = g.S.Store.trees in
+    let rows = facts trees c.args.kernel.now in
+    let atom = atom_at (trees c.args.kernel.now.store) c.args.atom.now in
+    let fault : c.of_atom.result ≡ Memory = cc is in
+    let why = memory_of_atom c.args.atom.now.at c.in-Err.why (sym c.of_atom.ensures ∙ fault) in
+    subst (λ n. AsksOrUses rows n c.args.goal atom) c.rows-fact.ensures.count (c.in-Err.ensures.memory (ap Err why))

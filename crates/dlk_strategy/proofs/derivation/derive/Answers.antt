@@ -1,13 +1,14 @@
-use Rattle.std.proofs.Common.{ℕ, ◌+◌, map, refl, sym, ap, subst, ◌∙◌, arith}
+use Rattle.std.proofs.Common.{◌≡◌, ℕ, ◌+◌, map, refl, sym, ap, subst, ◌∙◌, arith}
 use Rattle.std.specs.Prelude.{Err}
 use Rattle.std.proofs.Math.Seq.{take-length}
 use Rattle.dlk_sequent.specs.Sequents.{sequent_at}
 use Rattle.dlk_tacsyn.specs.Ties.{argument_at, atom_at}
 use Rattle.dlk_strategy.specs.declared.fault.RunFault.{RunFault}
+use Rattle.dlk_strategy.specs.declared.fault.RunFault.TheVariants.{Memory}
 use Rattle.dlk_strategy.specs.Runs.{OneByOne, RunDerive, spent}
 use Rattle.dlk_strategy.specs.Ties.{now, at_byte, Becomes, Extends}
 use Rattle.dlk_strategy.proofs.Derivations.{given_place}
-use Rattle.dlk_strategy.proofs.Faults.{unless_over, plan_fails}
+use Rattle.dlk_strategy.proofs.Faults.{unless_over, plan_fails, memory_of_plan}
 use Rattle.dlk_strategy.proofs.States.{same_extends}
 use Rattle.dlk_strategy.proofs.Uses.{planned_fit, derived, becomes_on}
 use Rattle.dlk_strategy.proofs.derivation.derive.Goals as goal
@@ -69,3 +70,33 @@ returns-in-Err-clause-extends g c =
       counted = omega arith;
       within = omega (arith, c.if-trace-ge-MOST_RUNS.false);
     })
+
+pub returns-in-Ok-clause-memory : goal.returns-in-Ok-clause-memory
+returns-in-Ok-clause-memory g c = λ is.
+    let trees = g.S.Store.trees c.args.kernel.now.store in
+    let plan = c.in-Ok.ensures.plan in
+    record {
+      s = sequent_at trees c.goal_at.result.now;
+      place = c.in-Some.place;
+      path = c.in-Some.path.now;
+      calls = plan.0;
+      stands = c.goal_at.ensures.goal;
+      given = ap (map (argument_at trees)) (sym c.as_slice.ensures ∙ c.in-Some.ensures.found);
+      planned = plan.1;
+    }
+
+pub returns-in-Err-clause-memory : goal.returns-in-Err-clause-memory
+returns-in-Err-clause-memory g c = λ is.
+    let trees = g.S.Store.trees c.args.kernel.now.store in
+    let fault : c.of_plan.result ≡ Memory = cc is in
+    let why = memory_of_plan c.args.atom.now.at c.in-Err.why (sym c.of_plan.ensures ∙ fault) in
+    let plan = c.in-Err.ensures.memory (ap Err why) in
+    record {
+      s = sequent_at trees c.goal_at.result.now;
+      place = c.in-Some.place;
+      path = c.in-Some.path.now;
+      calls = plan.0;
+      stands = c.goal_at.ensures.goal;
+      given = ap (map (argument_at trees)) (sym c.as_slice.ensures ∙ c.in-Some.ensures.found);
+      planned = plan.1;
+    }
