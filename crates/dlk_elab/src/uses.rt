@@ -1,8 +1,9 @@
 //! Uses of axioms.
-ghost use Rattle.std.specs.Prelude.{◌≡◌, ◌<◌, ◌^◌, length, IfOk, IfErr};
+ghost use Rattle.std.specs.Prelude.{◌≡◌, ◌<◌, ◌^◌, length, None, Err, IfOk, IfErr};
 ghost use Rattle.dlk_tree.specs.declared.op.Sort.TheVariants.{Formula};
 ghost use Rattle.dlk_tree.specs.Trees.{Tree, sort};
 ghost use Rattle.dlk_store.specs.Stores.{tree, StandsFor};
+ghost use Rattle.dlk_calculus.specs.Axioms.{axiom_named};
 ghost use Rattle.dlk_sequent.specs.Spines.{top, path_of, IsSpine};
 ghost use Rattle.dlk_uses.specs.Uses.{ProvesLast};
 ghost use Rattle.dlk_elab.specs.Finishing.{FinishLast};
@@ -79,6 +80,7 @@ fn find<S: Store, L: Ledger>(
     requires given { GivenIsKnown (S.trees kernel.old.store) (option_copied used.given) }
     ensures found { IfOk result (IsFound (facts S.trees kernel.old) target (atom_at (S.trees kernel.old.store) atom.now) (S.trees kernel.new.store) used.entry) }
     ensures fault { IfErr result (IsTacFault (AtomFault (facts S.trees kernel.old) target.fact target.goal (atom_at (S.trees kernel.old.store) atom.now))) }
+    ensures unknown { axiom_named used.entry.name.now ≡ None → result ≡ Err TacFault.UnknownName }
     ensures same { SameRows S.trees kernel.old kernel.new }
     ensures grows { S.grows kernel.old.store kernel.new.store }
 {
@@ -152,6 +154,7 @@ pub(crate) fn use_axiom<S: Store, L: Ledger>(
     requires given { GivenIsKnown (S.trees kernel.old.store) (option_copied used.given) }
     ensures made { IfOk result (λ made. AreMade (facts S.trees kernel.old) target.fact target.goal (atom_at (S.trees kernel.old.store) atom.now) (S.trees kernel.new.store) made.items (facts S.trees kernel.new)) }
     ensures fault { IfErr result (IsTacFault (AtomFault (facts S.trees kernel.old) target.fact target.goal (atom_at (S.trees kernel.old.store) atom.now))) }
+    ensures unknown { axiom_named used.entry.name.now ≡ None → result ≡ Err TacFault.UnknownName }
     ensures kept { ExtendsRows S.trees kernel.old kernel.new }
     ensures grows { S.grows kernel.old.store kernel.new.store }
 {

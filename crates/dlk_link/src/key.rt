@@ -19,8 +19,8 @@ use std::alloc::{AllocError, Global};
 use std::hash::{Hash, Hasher};
 use std::marker::Model;
 
-/// Most steps are known by at most so many words.
-const USUAL_WORDS: usize = 24;
+/// A key has room for so many words from the start.
+const USUAL_WORDS: usize = 8;
 
 /// The words that a step is known by. Over a store in which a tree has at most one id, two steps are equal exactly where their
 /// words are.

@@ -1,5 +1,5 @@
 //! A proof without what its last row doesn't need, and with each step once.
-ghost use Rattle.std.specs.Prelude.{◌≡◌, ◌+◌, ◌<◌, ◌≤◌, List, [], length, map, All, IfOk, OnOk, IfErr, OnErr};
+ghost use Rattle.std.specs.Prelude.{◌≡◌, ◌≢◌, ◌+◌, ◌<◌, ◌≤◌, List, [], length, map, slice_index, All, IfOk, OnOk, IfErr, OnErr};
 ghost use Rattle.dlk_tree.specs.Trees.{Tree};
 ghost use Rattle.dlk_store.specs.Stores.{HasOneId};
 ghost use Rattle.dlk_calculus.specs.Limits.{most_rows};
@@ -52,9 +52,10 @@ impl Kept {
     }
 }
 
-/// How many of the first rows have the numbers that they had.
+/// How many of the first rows have the numbers that they had: the row behind them, if there is one, has another.
 fn unmoved(numbers: &[u32]) -> usize
-    ensures { HaveOldNumbers numbers.now result }
+    ensures same { HaveOldNumbers numbers.now result }
+    ensures most { result < length numbers.now → slice_index numbers.now result ≢ result + 1 }
 {
     for row in 0..numbers.len() {
         if numbers[row] as usize != row + 1 {

@@ -22,6 +22,10 @@ returns-in_err-named-clause-fault g c =
     rw (p.1, p.2) (unnamed (facts g.S.Store.trees c.args.kernel.now) c.args.target (atom_at trees c.args.atom.now) c.args.used
     (given_at trees (option_copied c.args.used.given)) c.requires.call c.requires.goal c.in_err-named.field-0.0 c.in_err-named.ensures.fault)
 
+pub returns-in_err-named-clause-unknown : goal.returns-in_err-named-clause-unknown
+returns-in_err-named-clause-unknown g c =
+    let p = err_from_is_err_and c.from_residual.result c.from_residual.ensures.1 in rw (p.1, p.2) c.in_err-named.ensures.unknown
+
 pub returns-in_err-reached-clause-fault : goal.returns-in_err-reached-clause-fault
 returns-in_err-reached-clause-fault g c =
     let trees = g.S.Store.trees c.args.kernel.now.store in
@@ -31,6 +35,9 @@ returns-in_err-reached-clause-fault g c =
     c.in_ok-named.ensures.found c.in_err-reached.field-0.0
     (subst (λ (r : List Provable). IsTacFault (λ why. (why ≡ NoPlace) × IsNotThere r c.args.target c.args.used.place c.args.used.path.now)
     c.in_err-reached.field-0.0) c.named_axiom.ensures.grows.1.provables c.in_err-reached.ensures.fault))
+
+pub returns-in_err-reached-clause-unknown : goal.returns-in_err-reached-clause-unknown
+returns-in_err-reached-clause-unknown g c = λ none. absurd (cc (c.in_ok-named.ensures.unknown none))
 
 pub matched-requires-clause-given : goal.matched-requires-clause-given
 matched-requires-clause-given g c =
@@ -55,6 +62,9 @@ returns-in_err-extra-clause-fault g c =
     c.in_err-extra.field-0.0) (given_kept trees mid keeps (option_copied u.given) c.requires.given)
     (subst (λ (x : Id). IsTacFault (λ why. (why ≡ NoMatch) × (MayBeUsed named u → HasNoMatch (wanted mid named u) named.own.items (tree mid x)
     (given_at mid (option_copied u.given)))) c.in_err-extra.field-0.0) c.subtree.ensures c.in_err-extra.ensures.fault)))
+
+pub returns-in_err-extra-clause-unknown : goal.returns-in_err-extra-clause-unknown
+returns-in_err-extra-clause-unknown g c = λ none. absurd (cc (c.in_ok-named.ensures.unknown none))
 
 pub returns-in_err-extra-clause-grows : goal.returns-in_err-extra-clause-grows
 returns-in_err-extra-clause-grows g c =
@@ -81,6 +91,9 @@ returns-clause-found g c =
     (given_kept trees mid keeps (option_copied u.given) c.requires.given)
     (subst (λ (x : Id). IsMatch (wanted mid named u) named.own.items (tree mid x) (given_at mid (option_copied u.given)) new c.in_ok-extra.extra)
     c.subtree.ensures c.in_ok-extra.ensures.matches))
+
+pub returns-clause-unknown : goal.returns-clause-unknown
+returns-clause-unknown g c = λ none. absurd (cc (c.in_ok-named.ensures.unknown none))
 
 pub returns-clause-grows : goal.returns-clause-grows
 returns-clause-grows g c =

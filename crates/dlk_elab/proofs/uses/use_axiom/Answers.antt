@@ -15,6 +15,10 @@ use Rattle.dlk_elab.proofs.Elaborates.{goal_small, steps_same, known_later}
 use Rattle.dlk_elab.proofs.UseTaken.{Laws, few_renames, planned_there, not_instanced, proves, rest_known, not_finished, made_by_use}
 use Rattle.dlk_elab.proofs.uses.use_axiom.Goals as goal
 
+pub returns-in_err-found-clause-unknown : goal.returns-in_err-found-clause-unknown
+returns-in_err-found-clause-unknown g c =
+    let p = err_from_is_err_and c.from_residual.result c.from_residual.ensures.1 in rw (p.1, p.2) c.in_err-found.ensures.unknown
+
 pub instance-requires : goal.instance-requires
 instance-requires g c =
     let trees = g.S.Store.trees c.args.kernel.now.store in
@@ -33,6 +37,9 @@ instance-requires g c =
     let few = few_renames rows c.args.target atom mid c.args.used found is laws in
     omega (arith, few, c.requires.rows, c.rows.ensures.count, c.rows.ensures.few)
 
+pub returns-in_err-plan-clause-unknown : goal.returns-in_err-plan-clause-unknown
+returns-in_err-plan-clause-unknown g c = λ none. absurd (cc (c.in_ok-found.ensures.unknown none))
+
 pub returns-in_err-take_in_turn-clause-fault : goal.returns-in_err-take_in_turn-clause-fault
 returns-in_err-take_in_turn-clause-fault g c =
     let trees = g.S.Store.trees c.args.kernel.now.store in
@@ -48,6 +55,9 @@ returns-in_err-take_in_turn-clause-fault g c =
     rw (p.1, p.2) (not_instanced rows c.args.target atom mid c.args.used found is plan planned c.in_err-take_in_turn.field-0.0
     (subst (λ (r : List Provable). IsStepFault (FirstFault r (map (step_at mid) plan)) c.in_err-take_in_turn.field-0.0) c.find.ensures.same.provables
     (rw c.as_slice.ensures.value at c.in_err-take_in_turn.ensures.fault)))
+
+pub returns-in_err-take_in_turn-clause-unknown : goal.returns-in_err-take_in_turn-clause-unknown
+returns-in_err-take_in_turn-clause-unknown g c = λ none. absurd (cc (c.in_ok-found.ensures.unknown none))
 
 pub returns-in_err-take_in_turn-clause-grows : goal.returns-in_err-take_in_turn-clause-grows
 returns-in_err-take_in_turn-clause-grows g c =
@@ -102,6 +112,9 @@ behind-requires-clause-proves g c =
     (rw c.as_slice.ensures.value at c.in_ok-take_in_turn.ensures.taken) in
     proves rows c.args.target atom mid c.args.used found is plan planned between taken laws (tree new found.way.found)
     (c.spine_stays.ensures.found mid new found.way keeps is.spine)
+
+pub returns-in_err-rest-clause-unknown : goal.returns-in_err-rest-clause-unknown
+returns-in_err-rest-clause-unknown g c = λ none. absurd (cc (c.in_ok-found.ensures.unknown none))
 
 pub returns-in_err-rest-clause-grows : goal.returns-in_err-rest-clause-grows
 returns-in_err-rest-clause-grows g c =
@@ -160,12 +173,18 @@ returns-in_err-take_in_turn-2-clause-fault g c =
     (subst (λ (r : List Provable). IsStepFault (FirstFault r (map (step_at later) rest)) c.in_err-take_in_turn-2.field-0.0) as_behind
     (rw c.as_slice-2.ensures.value at c.in_err-take_in_turn-2.ensures.fault)))
 
+pub returns-in_err-take_in_turn-2-clause-unknown : goal.returns-in_err-take_in_turn-2-clause-unknown
+returns-in_err-take_in_turn-2-clause-unknown g c = λ none. absurd (cc (c.in_ok-found.ensures.unknown none))
+
 pub returns-in_err-take_in_turn-2-clause-grows : goal.returns-in_err-take_in_turn-2-clause-grows
 returns-in_err-take_in_turn-2-clause-grows g c =
     let first = g.met.S.Store.grows_trans c.args.kernel.now.store c.find.new.kernel.store c.take_in_turn.new.kernel.store c.find.ensures.grows
     c.take_in_turn.ensures.grows in
     let second = g.met.S.Store.grows_trans c.args.kernel.now.store c.take_in_turn.new.kernel.store c.behind.new.kernel.store first c.behind.ensures.grows in
     g.met.S.Store.grows_trans c.args.kernel.now.store c.behind.new.kernel.store c.take_in_turn-2.new.kernel.store second c.take_in_turn-2.ensures.grows
+
+pub returns-in_err-all-clause-unknown : goal.returns-in_err-all-clause-unknown
+returns-in_err-all-clause-unknown g c = λ none. absurd (cc (c.in_ok-found.ensures.unknown none))
 
 pub returns-in_err-all-clause-grows : goal.returns-in_err-all-clause-grows
 returns-in_err-all-clause-grows g c =
@@ -213,6 +232,9 @@ returns-clause-made g c =
     (known_later later last (λ s k. c.step_stays.ensures.known later last s keeps_behind k) rest others)
     (subst (λ (r : List Provable). Takes r (map (step_at later) rest) after) as_behind
     (rw c.as_slice-2.ensures.value at c.in_ok-take_in_turn-2.ensures.taken))
+
+pub returns-clause-unknown : goal.returns-clause-unknown
+returns-clause-unknown g c = λ none. absurd (cc (c.in_ok-found.ensures.unknown none))
 
 pub returns-clause-grows : goal.returns-clause-grows
 returns-clause-grows g c =

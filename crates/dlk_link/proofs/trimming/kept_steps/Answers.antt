@@ -83,7 +83,7 @@ returns-clause-trimmed c = λ trees one known.
     let whole = none_left_to_read term (into_iter_items c.loop-step.step-iterator) steps keys numbers c.loop-step.invariant none in (
       numbers,
       all_kept term steps keys numbers trees (subst (λ r. Row term r steps keys numbers trees) whole (c.loop-step.invariant.so_far.kept trees one known)),
-      subst (λ l. HaveOldNumbers l c.unmoved-same.result) c.deref-2.ensures.value c.unmoved-same.ensures,
+      subst (λ l. HaveOldNumbers l c.unmoved-same.result) c.deref-2.ensures.value c.unmoved-same.ensures.same,
     )
 
 pub returns-clause-known : goal.returns-clause-known
