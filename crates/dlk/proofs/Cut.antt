@@ -23,7 +23,7 @@ AreRead files names limits cuts = (whole : List (List ℕ)) × (bytes_of files n
 test_cut : (limit : ℕ) (bytes : List ℕ) → nat_lt limit (length bytes) ≡ nat_lt limit (length (take (limit + 1) bytes))
 test_cut limit bytes = let e = length-take (limit + 1) bytes in grind (arith, nat_tests, e)
 
-none_else : (b : Bool) (name : Word) (other : Option Word) → cond b (Some name) other ≡ None → (b ≡ false) × (other ≡ None)
+pub none_else : (b : Bool) (name : Word) (other : Option Word) → cond b (Some name) other ≡ None → (b ≡ false) × (other ≡ None)
 none_else true name other h = absurd (cc)
 none_else false name other h = (refl, h)
 

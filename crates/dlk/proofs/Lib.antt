@@ -12,6 +12,7 @@ pub mod Looked
 pub mod Guarding
 pub mod Refusals
 pub mod Done
+pub mod Short
 pub mod Writing
 pub mod WrittenTerms
 pub mod Played

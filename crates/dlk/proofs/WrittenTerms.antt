@@ -7,6 +7,7 @@ use Rattle.dlk_desk.specs.Outside.{Outside}
 use Rattle.dlk_recorder.specs.Terms.{term_text}
 use Rattle.dlk_report.specs.Reports.{is_closed, text_report}
 use Rattle.dlk_replies.specs.declared.command.Command.TheVariants.{Convert, Link, Trim}
+use Rattle.dlk_replies.specs.declared.form.Role.TheVariants.{Term, Lemma}
 use Rattle.dlk_replies.specs.declared.reply.Layout.TheVariants.{Text}
 use Rattle.dlk_replies.specs.Forms.{Word, others_of}
 use Rattle.dlk_replies.specs.Replies.{Reply, code_of}
@@ -95,7 +96,8 @@ whole_links checked law words status old new reply gives model term lemma out sa
     let written = writes_this reply (linked_or_refused model term lemma reply job) few words old new texts out there gives.files in
     let by = law model term lemma out reply job written in
     record {
-      accepted = whole_accepted Link model (linked_writes checked model) words status old new reply gives out said form (term ∷ lemma ∷ [], there) less says;
+      accepted = whole_accepted Link (Term ∷ Lemma ∷ []) model refl (linked_writes checked model)
+          words status old new reply gives out said form (term ∷ lemma ∷ [], there) less says;
       rows = by.rows;
       proof = by.main;
       of_term = by.takes.replays.accepts;
@@ -125,7 +127,8 @@ whole_trims checked law words status old new reply gives model term out said for
     let written = writes_this reply (trimmed_or_refused model term reply job) few words old new texts out there gives.files in
     let by = law model term out reply job written in
     record {
-      accepted = whole_accepted Trim model (trimmed_writes checked model) words status old new reply gives out said form (term ∷ [], there) less says;
+      accepted = whole_accepted Trim (Term ∷ []) model refl (trimmed_writes checked model)
+          words status old new reply gives out said form (term ∷ [], there) less says;
       steps = by.steps;
       rows = by.rows;
       proof = by.last;

@@ -144,8 +144,10 @@ JudgesTruly words status old new =
     (layout : Layout) (model term said : List ℕ) (f : Tree) → RunsCheck layout words old model term → length model ≤ limit_of Model → length term ≤ limit_of Term →
     ModelText model f → new.printed ≡ old.printed ++ said → Judges layout term f status said
 
--- The term is within the limit, and `check` answers to it with this status and what is printed.
+-- Model and term are within their limits, and `check` answers to them with this status and what is printed.
 pub record IsAccepted (model term : List ℕ) (status : ℕ) (said : List ℕ) : Type 0 where
+  -- the model is no longer than the longest that is read
+  pub model_short : length model ≤ limit_of Model
   pub short : length term ≤ limit_of Term
   pub reply : Reply
   pub checks : Checks (Reported Text) model term reply
