@@ -15,18 +15,22 @@ use Rattle.dlk.specs.Runs.{AsksFor}
 use Rattle.dlk.proofs.Cut.{Alike, are_read}
 
 -- the answer to inputs that are cut past their limits is that to the whole ones
-pub responds_alike : (c : Command) (words : List Word) (cuts whole : List (List ℕ)) (reply : Reply) → Alike (inputs_of c words) (limits_of c) cuts whole → Responds c words cuts reply → Responds c words whole reply
+pub responds_alike : (c : Command) (words : List Word) (cuts whole : List (List ℕ)) (reply : Reply) → Alike (inputs_of c words) (limits_of c) cuts whole →
+    Responds c words cuts reply → Responds c words whole reply
 responds_alike c words cuts whole reply h (refuses name long) = refuses name (h.first ∙ long)
-responds_alike c words cuts whole reply h (does short r job) = does (h.first ∙ short) r (subst (λ (texts : List (List ℕ)). Does c (others_of c words) texts r) (h.same short) job)
+responds_alike c words cuts whole reply h (does short r job) =
+    does (h.first ∙ short) r (subst (λ (texts : List (List ℕ)). Does c (others_of c words) texts r) (h.same short) job)
 
-pub answered : (words : List Word) (c : Command) (files : Files) (cuts : List (List ℕ)) (reply : Reply) → command_of words ≡ Some c → length (inputs_of c words) ≡ length (limits_of c) →
+pub answered : (words : List Word) (c : Command) (files : Files) (cuts : List (List ℕ)) (reply : Reply) → command_of words ≡ Some c →
+    length (inputs_of c words) ≡ length (limits_of c) →
     cut_bytes_of files (inputs_of c words) (limits_of c) ≡ Some cuts → Responds c words cuts reply → Answers words files reply
 answered words c files cuts reply is count read responds =
     let h = are_read files (inputs_of c words) (limits_of c) count cuts read in
     command c is h.0 h.1 reply (responds_alike c words cuts h.0 reply h.2 responds)
 
 -- where the inputs of a form were read, each is there
-pub have_inputs : (words : List Word) (c : Command) (files : Files) (cuts : List (List ℕ)) → command_of words ≡ Some c → length (inputs_of c words) ≡ length (limits_of c) →
+pub have_inputs : (words : List Word) (c : Command) (files : Files) (cuts : List (List ℕ)) → command_of words ≡ Some c →
+    length (inputs_of c words) ≡ length (limits_of c) →
     cut_bytes_of files (inputs_of c words) (limits_of c) ≡ Some cuts → IsSome (bytes_of files (inputs words))
 have_inputs words c files cuts is count read =
     let h = are_read files (inputs_of c words) (limits_of c) count cuts read in
@@ -46,7 +50,8 @@ none_written None e = refl
 none_written (Some v) e = absurd cc
 
 -- what was asked for are the inputs of the words
-pub asks_words : (tells : Type 0) (words names : List Word) (c : Command) (form : CodeForm) (old new : Outside) → command_of words ≡ Some c → names ≡ inputs_of c words → form_shown form ≡ form_of c →
+pub asks_words : (tells : Type 0) (words names : List Word) (c : Command) (form : CodeForm) (old new : Outside) → command_of words ≡ Some c →
+    names ≡ inputs_of c words → form_shown form ≡ form_of c →
     ((count : ℕ) × AsksFor tells names (map limit_of form.inputs.now) count old new) → (count : ℕ) × AsksFor tells (inputs words) (limits words) count old new
 asks_words tells words names c form old new is named is_form asks =
     let these : names ≡ inputs words = named ∙ sym (ap (λ o. inputs_of_form o words) is) in

@@ -15,7 +15,8 @@ pub after_through : (output : Option Output) (old mid new : Files) → SameFiles
 after_through None old mid new a b name = b name ∙ a name
 after_through (Some output) old mid new a b name = b name ∙ ap (λ (o : Option (List ℕ)). cond (bytes_eq name output.name) (Some output.bytes) o) (a name)
 
-written_through : (name : Word) (bytes : List ℕ) (old mid new : Files) → SameFiles old mid → SameFiles (written_to name bytes mid) new → SameFiles (written_to name bytes old) new
+written_through : (name : Word) (bytes : List ℕ) (old mid new : Files) → SameFiles old mid → SameFiles (written_to name bytes mid) new →
+    SameFiles (written_to name bytes old) new
 written_through name bytes old mid new a b other = b other ∙ ap (λ (o : Option (List ℕ)). cond (bytes_eq other name) (Some bytes) o) (a other)
 
 pub part_through : (output : Option Output) (old mid new : Files) → SameFiles old mid → WrittenInPart output mid new → WrittenInPart output old new
@@ -42,7 +43,8 @@ no_bytes (Some name) None none = none
 no_bytes (Some name) (Some bytes) none = absurd cc
 
 -- what the file of this name holds now, and every other file as it was
-pub written_is : (name : Word) (bytes : List ℕ) (old new : Files) → new name ≡ Some bytes → SameOtherFiles name old new → SameFiles (written_to name bytes old) new
+pub written_is : (name : Word) (bytes : List ℕ) (old new : Files) → new name ≡ Some bytes → SameOtherFiles name old new →
+    SameFiles (written_to name bytes old) new
 written_is name bytes old new here others other = by_test (bytes_eq other name) refl
   where
     by_test : (b : Bool) → bytes_eq other name ≡ b → new other ≡ cond b (Some bytes) (old other)
@@ -56,7 +58,8 @@ all_same name old new here others other = by_test (bytes_eq other name) refl
     by_test true e = let is = (bytes_eq-Decides other name).0 e in ap new is ∙ here ∙ sym (ap old is)
     by_test false e = others other (λ same. true≢false (sym ((bytes_eq-Decides other name).1 same) ∙ e))
 
-pub part_is : (name : Word) (bytes : List ℕ) (old new : Files) → (new name ≡ old name) ⊎ ((n : ℕ) × (new name ≡ Some (take n bytes))) → SameOtherFiles name old new →
+pub part_is : (name : Word) (bytes : List ℕ) (old new : Files) → (new name ≡ old name) ⊎ ((n : ℕ) × (new name ≡ Some (take n bytes))) →
+    SameOtherFiles name old new →
     WrittenInPart (Some (record { name = name; bytes = bytes })) old new
 part_is name bytes old new (inl here) others = inl (all_same name old new here others)
 part_is name bytes old new (inr here) others = inr (here.0, written_is name (take here.0 bytes) old new here.1 others)

@@ -1,5 +1,6 @@
 -- A term within its limit is accepted where its lines are steps, and else its first wrong line is named.
-use Rattle.std.proofs.Common.{◌≡◌, ◌↔◌, ◌<◌, ◌≤◌, ◌⊎◌, ℕ, Bool, true, false, nat_lt, List, [], ◌∷◌, ◌++◌, length, None, Some, refl, sym, ap, subst, ◌∙◌, inl, inr, arith}
+use Rattle.std.proofs.Common.{◌≡◌, ◌↔◌, ◌<◌, ◌≤◌, ◌⊎◌, ℕ, Bool, true, false, nat_lt, List, [], ◌∷◌, ◌++◌, length, None, Some, refl, sym, ap, subst}
+use Rattle.std.proofs.Common.{◌∙◌, inl, inr, arith}
 use Rattle.std.proofs.lemmas.List.{append_cancel_left}
 use Rattle.std.proofs.lemmas.Bool.Decides.{nat_tests}
 use Rattle.dlk_tree.specs.Trees.{Tree}
@@ -35,7 +36,8 @@ closed_is_zero [] = ((λ e. refl), (λ e. refl))
 closed_is_zero (s ∷ goals) = ((λ e. absurd (omega (arith, e))), (λ e. cc))
 
 module _ (layout : Layout) (model term : List ℕ) (f : Tree) (reads : ModelText model f) where
-  pub reported_of : (reply : Reply) → Checks (Reported layout) model term reply → code_of reply.status < 2 → IsReported layout term f (code_of reply.status) reply.printed
+  pub reported_of : (reply : Reply) → Checks (Reported layout) model term reply → code_of reply.status < 2 →
+      IsReported layout term f (code_of reply.status) reply.printed
   reported_of reply (refuses_term r refused) less =
       let two : code_of r.status ≡ 2 = ap code_of (term_is_refused model term r refused) in absurd (omega (arith, less, two))
   reported_of reply (reports steps rows p t) less =
@@ -52,7 +54,8 @@ module _ (layout : Layout) (model term : List ℕ) (f : Tree) (reads : ModelText
         report = refl;
       }
 
-  refused_of : (reply : Reply) → Checks (Reported layout) model term reply → code_of reply.status ≡ 2 → NamesLine term reply.printed ⊎ NamesConclusion term f reply.printed
+  refused_of : (reply : Reply) → Checks (Reported layout) model term reply → code_of reply.status ≡ 2 →
+      NamesLine term reply.printed ⊎ NamesConclusion term f reply.printed
   refused_of reply (refuses_term _ (bad_model why fault)) two = absurd (model_or_fault why reads fault)
   refused_of reply (refuses_term _ (bad_line g t n why v)) two = inl (record { line = n; why = why; verdict = v; refusal = refl })
   refused_of reply (refuses_term _ (bad_conclusion g t rows p a ne)) two =
@@ -102,19 +105,22 @@ none_too_long Text = short_enough
 none_too_long Json = short_enough
 
 -- what a command in this layout answers to a model and a term
-job_checks : (layout : Layout) (others : List Word) (model term : List ℕ) (reply : Reply) → Does (command_in layout) others (model ∷ term ∷ []) reply → Checks (Reported layout) model term reply
+job_checks : (layout : Layout) (others : List Word) (model term : List ℕ) (reply : Reply) → Does (command_in layout) others (model ∷ term ∷ []) reply →
+    Checks (Reported layout) model term reply
 job_checks Text [] model term reply checks = checks
 job_checks Text (w ∷ ws) model term reply checks = absurd checks
 job_checks Json [] model term reply checks = checks
 job_checks Json (w ∷ ws) model term reply checks = absurd checks
 
 module _ (layout : Layout) (model term : List ℕ) (m : length model ≤ limit_of Model) (t : length term ≤ limit_of Term) where
-  response_checks : (words : List Word) (reply : Reply) → Responds (command_in layout) words (model ∷ term ∷ []) reply → Checks (Reported layout) model term reply
+  response_checks : (words : List Word) (reply : Reply) → Responds (command_in layout) words (model ∷ term ∷ []) reply →
+      Checks (Reported layout) model term reply
   response_checks words reply (refuses name long) =
       let e : None ≡ Some name = sym (none_too_long layout (inputs_of (command_in layout) words) model term m t) ∙ long in absurd cc
   response_checks words reply (does short r job) = job_checks layout _ model term r job
 
-  answer_checks : (words : List Word) (old : Outside) (reply : Reply) → Answers words old.files reply → RunsCheck layout words old model term → Checks (Reported layout) model term reply
+  answer_checks : (words : List Word) (old : Outside) (reply : Reply) → Answers words old.files reply → RunsCheck layout words old model term →
+      Checks (Reported layout) model term reply
   answer_checks words old reply answers runs =
       response_checks words reply (response words old.files (command_in layout) (model ∷ term ∷ []) reply answers runs.form runs.texts)
 
@@ -122,7 +128,8 @@ pub answer_judges : (words : List Word) (old new : Outside) (reply : Reply) → 
     JudgesTruly words (code_of reply.status) old new
 answer_judges words old new reply answers printed layout model term said f runs m t reads says =
     let same : reply.printed ≡ said = append_cancel_left old.printed reply.printed said (sym printed ∙ says) in
-    subst (λ (x : List ℕ). Judges layout term f (code_of reply.status) x) same (check_judges layout model term f reads reply (answer_checks layout model term m t words old reply answers runs))
+    subst (λ (x : List ℕ). Judges layout term f (code_of reply.status) x) same
+    (check_judges layout model term f reads reply (answer_checks layout model term m t words old reply answers runs))
 
 -- where there is no answer, or it is broken off, nothing is judged
 pub fault_judges : (words : List Word) (status : ℕ) (old new : Outside) → 3 ≤ status → JudgesTruly words status old new

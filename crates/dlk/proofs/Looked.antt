@@ -1,5 +1,6 @@
 -- From the looks of an answer to those of a run.
-use Rattle.std.proofs.Common.{◌≡◌, ◌≢◌, ℕ, ◌+◌, ◌≤◌, ◌++◌, inl, inr, List, [], ◌∷◌, length, Option, None, Some, IsNone, option_map, Vec, get_or, codes, refl, sym, ap, subst, ◌∙◌, arith}
+use Rattle.std.proofs.Common.{◌≡◌, ◌≢◌, ℕ, ◌+◌, ◌≤◌, ◌++◌, inl, inr, List, [], ◌∷◌, length, Option, None, Some, IsNone, option_map, Vec, get_or}
+use Rattle.std.proofs.Common.{codes, refl, sym, ap, subst, ◌∙◌, arith}
 use Rattle.std.specs.declared.alloc.Global.{Global}
 use Rattle.std.proofs.lemmas.List.{append_cancel_left}
 use Rattle.dlk_tree.specs.Trees.{Tree}
@@ -38,7 +39,8 @@ not_too_long name (inl e) = let same : 116 ≡ 110 = ap letter e in absurd (omeg
 not_too_long name (inr (inl e)) = let same : 116 ≡ 114 = ap letter e in absurd (omega (arith, same))
 not_too_long name (inr (inr e)) = let same : 116 ≡ 114 = ap letter e in absurd (omega (arith, same))
 
-is_substituted : (others : List Word) (file substitution : List ℕ) (reply : Reply) → Does Subst others (file ∷ substitution ∷ []) reply → Substitutes file substitution reply
+is_substituted : (others : List Word) (file substitution : List ℕ) (reply : Reply) → Does Subst others (file ∷ substitution ∷ []) reply →
+    Substitutes file substitution reply
 is_substituted [] file substitution reply h = h
 is_substituted (word ∷ words) file substitution reply h = absurd h
 
@@ -50,7 +52,8 @@ module _ (words : List Word) (files : Files) (cuts whole : List (List ℕ)) (ali
   by_response reply (refuses name long) refused = absurd (not_too_long name refused)
   by_response reply (does short r job) refused =
       looks file substitution refl (alike.same (sym alike.first ∙ short) ∙ texts) e pairs reply read
-      (is_substituted (others_of Subst words) file substitution reply (subst (λ (all : List (List ℕ)). Does Subst (others_of Subst words) all reply) texts job)) refused
+      (is_substituted (others_of Subst words) file substitution reply
+      (subst (λ (all : List (List ℕ)). Does Subst (others_of Subst words) all reply) texts job)) refused
 
 same_texts : {a b : List (List ℕ)} → Some a ≡ Some b → a ≡ b
 same_texts e = cc
@@ -78,7 +81,8 @@ module _ (words : List Word) (files : Files) (cuts : List (List ℕ)) (old new :
   by_answer e pairs file substitution there are_texts reply (command c is texts found r responds) refused =
       let h = are_read files (inputs_of Subst words) (limits_of Subst) count cuts read in
       let c_is : c ≡ Subst = same_command (sym is ∙ form) in
-      let found_here : bytes_of files (inputs_of Subst words) ≡ Some texts = subst (λ (d : Command). bytes_of files (inputs_of d words) ≡ Some texts) c_is found in
+      let found_here : bytes_of files (inputs_of Subst words) ≡ Some texts =
+      subst (λ (d : Command). bytes_of files (inputs_of d words) ≡ Some texts) c_is found in
       let texts_are : texts ≡ h.0 = same_texts (sym found_here ∙ h.1) in
       let whole : h.0 ≡ file ∷ substitution ∷ [] = same_texts (sym h.1 ∙ there) in
       by_response words files cuts h.0 h.2 old new looks e pairs file substitution whole are_texts reply
@@ -153,7 +157,8 @@ module _ (words : List Word) (old new : Outside) (before after : ℕ) (looks : L
       looks e pairs reply runs refused (subst (λ (r : Reply). Answers words old.files r) is answer)
 
   -- the answer was given
-  pub given_looked : (said : Reply) → Answers words old.files said → (code_of said.status ≡ 2 → said.written ≡ None) → new.printed ≡ old.printed ++ said.printed →
+  pub given_looked : (said : Reply) → Answers words old.files said → (code_of said.status ≡ 2 → said.written ≡ None) →
+      new.printed ≡ old.printed ++ said.printed →
       LooksAtFew words (code_of said.status) old new before after
   given_looked said answer alone printed = λ e pairs runs either.
       elim either [

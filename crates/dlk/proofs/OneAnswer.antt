@@ -20,4 +20,5 @@ one_reply one_response words files r s (command c a texts there r' one) (no_form
 one_reply one_response words files r s (command c a texts there r' one) (command d b others there2 s' other) =
     let same : c ≡ d = cc in
     let read : texts ≡ others = cc (there, there2, same) in
-    one_response d words others r s (subst (λ (x : Command). Responds x words others r) same (subst (λ (ts : List (List ℕ)). Responds c words ts r) read one)) other
+    one_response d words others r s (subst (λ (x : Command). Responds x words others r) same
+    (subst (λ (ts : List (List ℕ)). Responds c words ts r) read one)) other

@@ -18,9 +18,11 @@ module _ (words : List Word) (old mid new : Outside) (reply : Reply) (name : Opt
   to_words = ap (λ n. output_with n reply.written) named
 
   whole_files : SameFiles (after (output_with name reply.written) mid.files) new.files → SameFiles (after (output_to words reply) old.files) new.files
-  whole_files files = subst (λ o. SameFiles (after o old.files) new.files) to_words (after_through (output_with name reply.written) old.files mid.files new.files same files)
+  whole_files files = subst (λ o. SameFiles (after o old.files) new.files) to_words
+      (after_through (output_with name reply.written) old.files mid.files new.files same files)
 
-  pub gives_whole : SameFiles (after (output_with name reply.written) mid.files) new.files → new.printed ≡ mid.printed ++ reply.printed → (status : ℕ) → status ≡ code_of reply.status →
+  pub gives_whole : SameFiles (after (output_with name reply.written) mid.files) new.files → new.printed ≡ mid.printed ++ reply.printed → (status : ℕ) →
+      status ≡ code_of reply.status →
       GivesWhole words status old new reply
   gives_whole files printed status is = record {
     answer = answer;
@@ -52,8 +54,10 @@ read_alone : (tells : Type 0) (old new : Outside) → OnlyReads tells old new �
 read_alone tells old new reads = record { writing = reads.writing; target = reads.target; files = reads.files }
 
 -- an answer was given, or a front of it
-pub keeps_given : (tells : Type 0) (words : List Word) (status : ℕ) (old mid new : Outside) (reply : Reply) (name : Option Word) → name ≡ output words → OnlyReads tells old mid →
-    (IsNone (output_with name reply.written) → StartsNoWrite tells mid new) → (status ≡ 2 → IsNone reply.written) → status ≢ 4 → status ≢ 6 → Keeps tells words status old new
+pub keeps_given : (tells : Type 0) (words : List Word) (status : ℕ) (old mid new : Outside) (reply : Reply) (name : Option Word) → name ≡ output words →
+    OnlyReads tells old mid →
+    (IsNone (output_with name reply.written) → StartsNoWrite tells mid new) → (status ≡ 2 → IsNone reply.written) → status ≢ 4 → status ≢ 6 →
+    Keeps tells words status old new
 keeps_given tells words status old mid new reply name named reads none refusal four six = record {
   no_output = λ no. no_write_through tells old mid new reads (none (no_name name reply.written (subst IsNone (sym named) no)));
   refused = λ two. no_write_through tells old mid new reads (none (no_bytes name reply.written (refusal two)));
@@ -68,7 +72,8 @@ keeps_silent tells words status old new reads = record {
   silent = λ either. reads;
 }
 
-pub asks_given : (tells : Type 0) (words : List Word) (status : ℕ) (old mid new : Outside) → ((count : ℕ) × AsksFor tells (inputs words) (limits words) count old mid) →
+pub asks_given : (tells : Type 0) (words : List Word) (status : ℕ) (old mid new : Outside) →
+    ((count : ℕ) × AsksFor tells (inputs words) (limits words) count old mid) →
     mid.asked ≡ old.asked ++ inputs words → OnlyWrites tells mid new → Asks tells words status old new
 asks_given tells words status old mid new so_far all writes = record {
   count = so_far.0;
@@ -76,7 +81,8 @@ asks_given tells words status old mid new so_far all writes = record {
   all = λ form few. writes.asked ∙ all;
 }
 
-pub asks_silent : (tells : Type 0) (words : List Word) (status : ℕ) (old new : Outside) → ((count : ℕ) × AsksFor tells (inputs words) (limits words) count old new) → 3 ≤ status →
+pub asks_silent : (tells : Type 0) (words : List Word) (status : ℕ) (old new : Outside) →
+    ((count : ℕ) × AsksFor tells (inputs words) (limits words) count old new) → 3 ≤ status →
     Asks tells words status old new
 asks_silent tells words status old new so_far high = record {
   count = so_far.0;

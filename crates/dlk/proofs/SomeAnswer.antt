@@ -1,5 +1,6 @@
 -- Where each input is there, something is answered to words and files.
-use Rattle.std.proofs.Common.{◌≡◌, ℕ, ◌≤◌, ◌+◌, List, [], ◌∷◌, length, drop, Option, None, Some, IsSome, option_map, option_and_then, refl, ap, subst, ◌∙◌, arith, length-take, length-drop}
+use Rattle.std.proofs.Common.{◌≡◌, ℕ, ◌≤◌, ◌+◌, List, [], ◌∷◌, length, drop, Option, None, Some, IsSome, option_map, option_and_then, refl, ap, subst}
+use Rattle.std.proofs.Common.{◌∙◌, arith, length-take, length-drop}
 use Rattle.dlk_desk.specs.Outside.{Files}
 use Rattle.dlk_replies.specs.declared.command.Command.{Command}
 use Rattle.dlk_replies.specs.Forms.{Word, form_of, command_of, inputs_of}
@@ -38,7 +39,8 @@ names_fit words c is =
 
 -- a command answers something to words of its form and to as many texts as it has inputs
 abbrev pub SomeResponse : Type 0
-SomeResponse = (command : Command) (words : List Word) (texts : List (List ℕ)) → command_of words ≡ Some command → length texts ≡ length (form_of command).inputs →
+SomeResponse = (command : Command) (words : List Word) (texts : List (List ℕ)) → command_of words ≡ Some command →
+    length texts ≡ length (form_of command).inputs →
     (reply : Reply) × Responds command words texts reply
 
 pub some_reply : SomeResponse → (words : List Word) (files : Files) → IsSome (bytes_of files (inputs words)) → (reply : Reply) × Answers words files reply

@@ -1,5 +1,6 @@
 -- Where `closed` is printed, the model is derived from the printed leaves.
-use Rattle.std.proofs.Common.{◌≡◌, ◌⊎◌, ℕ, zero, suc, List, [], ◌∷◌, ◌++◌, length, take, get_or, Option, None, Some, option_map, codes, refl, sym, ap, subst, ◌∙◌, append-nil, arith, inl, inr}
+use Rattle.std.proofs.Common.{◌≡◌, ◌⊎◌, ℕ, zero, suc, List, [], ◌∷◌, ◌++◌, length, take, get_or, Option, None, Some, option_map, codes, refl, sym, ap}
+use Rattle.std.proofs.Common.{subst, ◌∙◌, append-nil, arith, inl, inr}
 use Rattle.std.specs.Prelude.{option_and_then}
 use Rattle.std.proofs.lemmas.List.{append_cancel_left, take_all}
 use Rattle.dlk_calculus.specs.Sequents.{Sequent}
@@ -45,7 +46,8 @@ not_refused (suc n) (c ∷ xs) ys begins h = omega (arith, begins, first_is (suc
 not_open : (n : ℕ) (xs ys : List ℕ) → take n (111 ∷ xs) ≡ 99 ∷ ys → ⊥
 not_open n xs ys h = omega (arith, first_is n 111 99 xs ys h)
 
-closed_front : (goals : List Sequent) (others said : List ℕ) (n : ℕ) → take n (line (first_word (is_closed goals)) ++ others) ≡ codes "closed" ++ said → goals ≡ []
+closed_front : (goals : List Sequent) (others said : List ℕ) (n : ℕ) → take n (line (first_word (is_closed goals)) ++ others) ≡ codes "closed" ++ said →
+    goals ≡ []
 closed_front [] others said n h = refl
 closed_front (goal ∷ goals) others said n h = absurd (not_open n _ _ h)
 
@@ -63,7 +65,8 @@ front_of : (reply : Reply) (status : ℕ) (said : List ℕ) → Given reply stat
 front_of reply status said (whole s e) = (length reply.printed, take_all (length reply.printed) reply.printed (omega arith) ∙ sym e)
 front_of reply status said (broken_off s n e) = (n, sym e)
 
-report_given : (p : Provable) (lines status : ℕ) (said : List ℕ) → p.goals ≡ [] → Given (reported Text p lines) status said → IsGiven (text_report p lines) status said
+report_given : (p : Provable) (lines status : ℕ) (said : List ℕ) → p.goals ≡ [] → Given (reported Text p lines) status said →
+    IsGiven (text_report p lines) status said
 report_given p lines status said closed (whole s e) =
     let zero_is : status ≡ 0 = s ∙ ap (λ (goals : List Sequent). code_of (status_of (is_closed goals))) closed in
     subst (λ (n : ℕ). IsGiven (text_report p lines) n said) (sym zero_is) (subst (λ (bytes : List ℕ). IsGiven (text_report p lines) 0 bytes) (sym e) all)
@@ -123,8 +126,10 @@ module _ (checked : EachIsChecked) (model term said : List ℕ) (status : ℕ) w
       ]
 
   -- the words have a command that has written the term
-  wrote_truly : (c : Command) → ((others : List Word) (texts : List (List ℕ)) (reply : Reply) → Does c others (model ∷ texts) reply → WritesChecked model reply) →
-      (words : List Word) (old new : Outside) (reply : Reply) → Answers words old.files reply → command_of words ≡ Some c → WritesTerm words old new model term →
+  wrote_truly : (c : Command) → ((others : List Word) (texts : List (List ℕ)) (reply : Reply) → Does c others (model ∷ texts) reply →
+      WritesChecked model reply) →
+      (words : List Word) (old new : Outside) (reply : Reply) → Answers words old.files reply → command_of words ≡ Some c →
+      WritesTerm words old new model term →
       SameFiles (after (output_to words reply) old.files) new.files → Given reply status (codes "closed" ++ said) → ByTerm
   wrote_truly c each words old new reply answers form (texts, there) files given =
       let shown = front_of reply status (codes "closed" ++ said) given in
@@ -135,7 +140,8 @@ module _ (checked : EachIsChecked) (model term said : List ℕ) (status : ℕ) w
             check_truly (printing reply.status reply.printed) checks shown.0 shown.1 (printed_given reply given)
       ]
 
-  pub speaks_truly : (words : List Word) (old new : Outside) (reply : Reply) (c : Command) → Answers words old.files reply → command_of words ≡ Some c → SpeaksOf c words old new model term →
+  pub speaks_truly : (words : List Word) (old new : Outside) (reply : Reply) (c : Command) → Answers words old.files reply → command_of words ≡ Some c →
+      SpeaksOf c words old new model term →
       SameFiles (after (output_to words reply) old.files) new.files → Given reply status (codes "closed" ++ said) → ByTerm
   speaks_truly words old new reply Check answers form there files given = answer_truly words old reply answers form there given
   speaks_truly words old new reply Print answers form there files given = absurd there
@@ -232,7 +238,8 @@ silent_not old new said same says =
     absurd (cc)
 
 -- a reply that was given whole, and one that was broken off
-pub whole_truly : EachIsChecked → (words : List Word) (status : ℕ) (old new : Outside) (reply : Reply) → GivesWhole words status old new reply → ClosedTruly words status old new
+pub whole_truly : EachIsChecked → (words : List Word) (status : ℕ) (old new : Outside) (reply : Reply) → GivesWhole words status old new reply →
+    ClosedTruly words status old new
 whole_truly checked words status old new reply gives c model term said form there says =
     let same : codes "closed" ++ said ≡ reply.printed = append_cancel_left old.printed (codes "closed" ++ said) reply.printed (sym says ∙ gives.printed) in
     speaks_truly checked model term said status words old new reply c gives.answer form there gives.files (whole gives.status_is same)

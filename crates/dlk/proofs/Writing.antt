@@ -38,7 +38,8 @@ file_is words old new reply name bytes named written same =
     let here : bytes_eq name name ≡ true = (bytes_eq-Decides name name).1 refl in
     is_written name ∙ ap (λ (b : Bool). cond b (Some bytes) (old name)) here
 
-pub file_holds : (words : List Word) (old new : Files) (reply : Reply) (name : Word) (bytes term : List ℕ) → output words ≡ Some name → reply.written ≡ Some bytes →
+pub file_holds : (words : List Word) (old new : Files) (reply : Reply) (name : Word) (bytes term : List ℕ) → output words ≡ Some name →
+    reply.written ≡ Some bytes →
     SameFiles (after (output_to words reply) old) new → new name ≡ Some term → bytes ≡ term
 file_holds words old new reply name bytes term named written same there =
     let e : Some bytes ≡ Some term = sym (file_is words old new reply name bytes named written same) ∙ there in
@@ -107,13 +108,15 @@ trimmed_or_refused model term _ (trim_refuses r refused) = inl (term_refusal mod
 trimmed_or_refused model term _ (trims steps rows p t kept is reply recorded) = last_recorded_or_refused kept reply recorded
 
 -- with a status below 2 it is the term that stands in the file
-pub writes_this : (reply : Reply) → IsRefusal reply ⊎ WritesSome reply → code_of reply.status < 2 → (words : List Word) (old new : Outside) (texts : List (List ℕ)) (out : List ℕ) →
+pub writes_this : (reply : Reply) → IsRefusal reply ⊎ WritesSome reply → code_of reply.status < 2 →
+    (words : List Word) (old new : Outside) (texts : List (List ℕ)) (out : List ℕ) →
     Writes words old new texts out → SameFiles (after (output_to words reply) old.files) new.files → reply.written ≡ Some out
 writes_this reply (inl refusal) less words old new texts out there files = absurd (omega (arith, less, refusal.two))
 writes_this reply (inr (term, written)) less words old new texts out there files =
     written ∙ ap Some (file_holds words old.files new.files reply there.name term out there.named written files there.written)
 
-too : (model : List ℕ) (reply : Reply) → IsRefusal reply ⊎ WritesSome reply → ((term : List ℕ) → reply.written ≡ Some term → IsCheckedToo model term reply) → WritesChecked model reply
+too : (model : List ℕ) (reply : Reply) → IsRefusal reply ⊎ WritesSome reply → ((term : List ℕ) → reply.written ≡ Some term → IsCheckedToo model term reply) →
+    WritesChecked model reply
 too model reply (inl refusal) checked = inl refusal
 too model reply (inr (term, written)) checked =
     let c = checked term written in inr (record { term = term; written = written; short = c.0; checks = c.1 })
@@ -135,7 +138,8 @@ module _ (checked : EachIsChecked) (model : List ℕ) where
   trimmed_writes _ _ reply job = absurd job
 
 -- what a command answers that writes a term of a model
-pub refused_or_written : (c : Command) (model : List ℕ) → ((others : List Word) (texts : List (List ℕ)) (reply : Reply) → Does c others (model ∷ texts) reply → WritesChecked model reply) →
+pub refused_or_written : (c : Command) (model : List ℕ) →
+    ((others : List Word) (texts : List (List ℕ)) (reply : Reply) → Does c others (model ∷ texts) reply → WritesChecked model reply) →
     (words : List Word) (files : Files) (texts : List (List ℕ)) (reply : Reply) → Answers words files reply → command_of words ≡ Some c →
     bytes_of files (inputs words) ≡ Some (model ∷ texts) → WritesChecked model reply
 refused_or_written c model each words files texts reply answers form there =

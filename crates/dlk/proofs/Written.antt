@@ -20,7 +20,8 @@ use Rattle.dlk.proofs.Short.{ReadsModel, model_within}
 use Rattle.dlk.proofs.Writing.{EachIsChecked, WritesChecked, file_holds, proved_writes, refused_or_written}
 
 -- what is given whole with a status below 2 is a reply with one
-pub few_given : {words : List Word} {status : ℕ} {old new : Outside} {reply : Reply} → GivesWhole words status old new reply → status < 2 → code_of reply.status < 2
+pub few_given : {words : List Word} {status : ℕ} {old new : Outside} {reply : Reply} → GivesWhole words status old new reply → status < 2 →
+    code_of reply.status < 2
 few_given gives less = omega (arith, less, gives.status_is)
 
 -- and prints this
@@ -31,7 +32,8 @@ says_given {old = old} {reply = reply} {said = said} gives says = append_cancel_
 -- the words have a command that reads a model and writes a term
 pub whole_accepted : (c : Command) (roles : List Role) (model : List ℕ) → ReadsModel c roles →
     ((others : List Word) (texts : List (List ℕ)) (reply : Reply) → Does c others (model ∷ texts) reply → WritesChecked model reply) →
-    (words : List Word) (status : ℕ) (old new : Outside) (reply : Reply) → GivesWhole words status old new reply → (term said : List ℕ) → command_of words ≡ Some c →
+    (words : List Word) (status : ℕ) (old new : Outside) (reply : Reply) → GivesWhole words status old new reply → (term said : List ℕ) →
+    command_of words ≡ Some c →
     WritesTerm words old new model term → status < 2 → new.printed ≡ old.printed ++ said → IsAccepted model term status said
 whole_accepted c roles model first each words status old new reply gives term said form (texts, there) less says =
     let within = model_within c roles words old.files model texts reply gives.answer first form there.texts_are (few_given gives less) in
@@ -45,7 +47,8 @@ whole_accepted c roles model first each words status old new reply gives term sa
           (subst (λ (x : List ℕ). IsAccepted model w.term (code_of reply.status) x) (says_given gives says) here))
     ]
 
-pub whole_proves : EachIsChecked → (words : List Word) (status : ℕ) (old new : Outside) (reply : Reply) → GivesWhole words status old new reply → ProvesTruly words status old new
+pub whole_proves : EachIsChecked → (words : List Word) (status : ℕ) (old new : Outside) (reply : Reply) → GivesWhole words status old new reply →
+    ProvesTruly words status old new
 whole_proves checked words status old new reply gives model term said form there less says =
     whole_accepted Prove (Strategy ∷ []) model refl (proved_writes checked model) words status old new reply gives term said form there less says
 

@@ -34,7 +34,8 @@ recorded_text (too_long long) written = absurd cc
 recorded_text (writes short) written = cc
 
 -- a written term is accepted with the rows of the term that it is written of
-same_rows : {term out : List ℕ} {rows others : List Provable} {p q : Provable} {reply : Reply} → Accepts term rows p → Accepts term others q → IsWritten out others q reply →
+same_rows : {term out : List ℕ} {rows others : List Provable} {p q : Provable} {reply : Reply} → Accepts term rows p → Accepts term others q →
+    IsWritten out others q reply →
     IsWritten out rows p reply
 same_rows {term} {out} {rows} {others} {p} {q} {reply} a b w =
     let end = one_end b a in
@@ -84,9 +85,11 @@ does_link (out ∷ []) model term lemma reply job = job
 does_link _ model term lemma reply job = absurd job
 
 abbrev pub LinkedIsJoined : Type 0
-LinkedIsJoined = (model term lemma written : List ℕ) (reply : Reply) → Links model term lemma reply → reply.written ≡ Some written → IsJoined model term lemma written reply
+LinkedIsJoined = (model term lemma written : List ℕ) (reply : Reply) → Links model term lemma reply → reply.written ≡ Some written →
+    IsJoined model term lemma written reply
 
-pub whole_links : EachIsChecked → LinkedIsJoined → (words : List Word) (status : ℕ) (old new : Outside) (reply : Reply) → GivesWhole words status old new reply →
+pub whole_links : EachIsChecked → LinkedIsJoined → (words : List Word) (status : ℕ) (old new : Outside) (reply : Reply) →
+    GivesWhole words status old new reply →
     LinksTruly words status old new
 whole_links checked law words status old new reply gives model term lemma out said form there less says =
     let few = few_given gives less in

@@ -1,5 +1,6 @@
 -- An atom asks for one thing.
-use Rattle.std.proofs.Common.{◌≡◌, ◌≢◌, ℕ, zero, suc, ◌+◌, ◌<◌, true, false, List, [], ◌∷◌, length, Option, Some, None, refl, sym, ap, subst, ◌∙◌, ◌⊎◌, inl, inr, arith}
+use Rattle.std.proofs.Common.{◌≡◌, ◌≢◌, ℕ, zero, suc, ◌+◌, ◌<◌, true, false, List, [], ◌∷◌, length, Option, Some, None, refl, sym, ap, subst, ◌∙◌}
+use Rattle.std.proofs.Common.{◌⊎◌, inl, inr, arith}
 use Rattle.std.specs.Prelude.{codes, IsTrue}
 use Rattle.std.specs.List.{Any, slice_index_or}
 use Rattle.std.specs.Str.{bytes_eq}
@@ -26,8 +27,12 @@ use Rattle.dlk_rules.specs.Steps.{side_of}
 use Rattle.dlk_rules.specs.Words.{shape_of, text_of, wanted, named}
 use Rattle.dlk_rules.proofs.WordLaws.{word_named}
 use Rattle.dlk_tacsyn.specs.Tactics.{Argument, AtPlace, Word, GivenFormula, Atom}
-use Rattle.dlk_elab.specs.Atoms.{UnknownName, NoPlace, NoMatch, AtStep, IsThere, IsElsewhere, further, across, AreFor, one_place, two_places, place_and_formula, one_formula, place_and_name, AreSame, AreFirstSame, Asked, Steps, Instance, Refused, Asks, nil, close, nothing_same, leaf, a_rule, elsewhere, generalize, cut_box, no_box, not_on_the_right, use_axiom, no_axiom, not_there, no_match}
-use Rattle.dlk_elab.specs.Atoms.{UseArguments, alone, with_extra, word_of_direction, NamesAxiom, IsUse, StandsThere, MatchesThere, IsForBox, generalizes, cuts, IsOnTheRight}
+use Rattle.dlk_elab.specs.Atoms.{UnknownName, NoPlace, NoMatch, AtStep, IsThere, IsElsewhere, further, across, AreFor, one_place, two_places}
+use Rattle.dlk_elab.specs.Atoms.{place_and_formula, one_formula, place_and_name, AreSame, AreFirstSame, Asked, Steps, Instance, Refused, Asks, nil}
+use Rattle.dlk_elab.specs.Atoms.{close, nothing_same, leaf, a_rule, elsewhere, generalize, cut_box, no_box, not_on_the_right, use_axiom, no_axiom}
+use Rattle.dlk_elab.specs.Atoms.{not_there, no_match}
+use Rattle.dlk_elab.specs.Atoms.{UseArguments, alone, with_extra, word_of_direction, NamesAxiom, IsUse, StandsThere, MatchesThere, IsForBox}
+use Rattle.dlk_elab.specs.Atoms.{generalizes, cuts, IsOnTheRight}
 use Rattle.dlk_uses.specs.Uses.{Direction, Forwards, Backwards, Use, key, may_stand, generalizing, cutting_box}
 use Rattle.dlk_match.specs.Matching.{Match}
 
@@ -370,7 +375,8 @@ module _ (one_match : (key : Tree) (own : List (List ℕ)) (e : Tree) (given a b
   uses_one _ _ (by_use_axiom u e t extra is there may match) (by_no_axiom d n p pa g names none) = absurd (no_such atom u d n p pa g is names none)
   uses_one _ _ (by_use_axiom u e t extra is there may match) (by_not_there v its none) =
       absurd (none e t (subst (λ (w : Use). StandsThere s w e t) (use_one atom u v is its) there))
-  uses_one _ _ (by_use_axiom u e t extra is there may match) (by_no_match v f r its here none) = absurd (unmatched atom s u e t extra v f r is its there here may match none)
+  uses_one _ _ (by_use_axiom u e t extra is there may match) (by_no_match v f r its here none) =
+      absurd (unmatched atom s u e t extra v f r is its there here may match none)
   uses_one _ _ (by_no_axiom d n p pa g names none) (by_use_axiom u e t extra is there may match) = absurd (no_such atom u d n p pa g is names none)
   uses_one _ _ (by_no_axiom d n p pa g names none) (by_no_axiom c m q qa h also lacks) = refl
   uses_one _ _ (by_no_axiom d n p pa g names none) (by_not_there u is lacks) = absurd (no_such atom u d n p pa g is names none)
@@ -381,7 +387,8 @@ module _ (one_match : (key : Tree) (own : List (List ℕ)) (e : Tree) (given a b
   uses_one _ _ (by_not_there u is lacks) (by_not_there v its none) = refl
   uses_one _ _ (by_not_there v its none) (by_no_match u e t is there lacks) =
       absurd (none e t (subst (λ (w : Use). StandsThere s w e t) (use_one atom u v is its) there))
-  uses_one _ _ (by_no_match v f r its here none) (by_use_axiom u e t extra is there may match) = absurd (unmatched atom s u e t extra v f r is its there here may match none)
+  uses_one _ _ (by_no_match v f r its here none) (by_use_axiom u e t extra is there may match) =
+      absurd (unmatched atom s u e t extra v f r is its there here may match none)
   uses_one _ _ (by_no_match u e t is there lacks) (by_no_axiom d n p pa g names none) = absurd (no_such atom u d n p pa g is names none)
   uses_one _ _ (by_no_match u e t is there lacks) (by_not_there v its none) =
       absurd (none e t (subst (λ (w : Use). StandsThere s w e t) (use_one atom u v is its) there))

@@ -15,7 +15,8 @@ use Rattle.dlk_rules.specs.Words.{shape_of, text_of, wanted}
 use Rattle.dlk_tacsyn.specs.Tactics.{Atom}
 use Rattle.dlk_kernel.specs.Taken.{Takes}
 use Rattle.dlk_elab.specs.Atoms.{asked as by_asking}
-use Rattle.dlk_elab.specs.Atoms.{uses, Instance, instance_of, not_instantiated, not_used, FailWhy, AtStep, Asked, Steps, Refused, Asks, AtomSteps, FirstFault, AtomFault, asks_none, not_taken}
+use Rattle.dlk_elab.specs.Atoms.{uses, Instance, instance_of, not_instantiated, not_used, FailWhy, AtStep, Asked, Steps, Refused, Asks, AtomSteps}
+use Rattle.dlk_elab.specs.Atoms.{FirstFault, AtomFault, asks_none, not_taken}
 use Rattle.dlk_uses.specs.Uses.{Use, Spot, Finishes, ProvesLast, FinishesBehind}
 use Rattle.dlk_match.specs.Matching.{Match}
 use Rattle.dlk_elab.proofs.OneFinish.{finishes_one}
@@ -83,12 +84,14 @@ module _ (one_provable : (rows : List Provable) (step : Step) (p q : Provable) �
     between_is : between ≡ other
     rest_is : rest ≡ more
 
-  rest_one : (rows : List Provable) (fact goal : ℕ) (s t : Sequent) (u v : Use) (x y : Extra) (e f : Tree) (between other : List Provable) (rest more : List Step) →
+  rest_one : (rows : List Provable) (fact goal : ℕ) (s t : Sequent) (u v : Use) (x y : Extra) (e f : Tree) (between other : List Provable)
+      (rest more : List Step) →
       SameInstance rows s t u v x y e f → Takes rows (instance_of (length rows) u x) between → Takes rows (instance_of (length rows) v y) other →
       FinishesFrom fact goal rest (record { between = between; s = s; used = u; e = e }) →
       FinishesFrom fact goal more (record { between = other; s = t; used = v; e = f }) → SameRest between other rest more
   rest_one rows fact goal s t u v x y e f between other rest more same first second a b =
-      let m : between ≡ other = takes_one one_provable rows between other (instance_of (length rows) v y) (subst (λ xs. Takes rows xs between) same.steps first) second in
+      let m : between ≡ other = takes_one one_provable rows between other (instance_of (length rows) v y)
+      (subst (λ xs. Takes rows xs between) same.steps first) second in
       let there : FinishesFrom fact goal rest (record { between = other; s = t; used = v; e = f }) =
       subst (FinishesFrom fact goal rest) (λ i. record { between = m i; s = same.goal i; used = same.used i; e = same.formula i }) a in
       let spot : Spot = record { fact = fact; goal = goal; s = t } in
@@ -114,7 +117,8 @@ module _ (one_provable : (rows : List Provable) (step : Step) (p q : Provable) �
       let steps = same.steps in
       let rests = r.rest_is in (
         λ i. steps i ++ rests i,
-        takes_one one_provable other a b more (subst (λ xs. Takes other xs a) r.rest_is (subst (λ (l : List Provable). Takes l rest a) r.between_is then_on)) also,
+        takes_one one_provable other a b more (subst (λ xs. Takes other xs a) r.rest_is
+            (subst (λ (l : List Provable). Takes l rest a) r.between_is then_on)) also,
       )
 
   pub one_fault : (rows : List Provable) (fact goal : ℕ) (atom : Atom) (why other : FailWhy) → AtomFault rows fact goal atom why →

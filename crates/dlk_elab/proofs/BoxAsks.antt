@@ -44,11 +44,13 @@ module _ (rows : List Provable) (target : Target) (atom : Atom) (trees : List Tr
       let p = keeps.same b.program at.program_known in
       let f = keeps.same b.formula at.formula_known in
       let k = keeps.same h known in
-      let are : map (step_at new) plan ≡ cutting_box target.rows (goal_at target (sequent_at trees s)) b.place (tree trees b.program) (tree trees b.formula) (tree
+      let are : map (step_at new) plan ≡ cutting_box target.rows (goal_at target (sequent_at trees s)) b.place (tree trees b.program)
+      (tree trees b.formula) (tree
       trees h) = planned.are ∙ (λ i. cutting_box target.rows (goal_at target (sequent_at trees s)) b.place (p i) (f i) (k i)) in
       are_asked rows target.rows target.fact target.goal atom (sequent_at trees s) counted is_goal new plan
       (subst (λ xs. Asks target.rows target.fact target.goal (sequent_at trees s) atom (Steps xs)) (sym are)
-      (cut_box b.place (tree trees b.program) (tree trees b.formula) (tree trees h) name (args ∙ ap (λ a. GivenFormula (tree trees h) ∷ a ∷ []) at.place) at.stands))
+      (cut_box b.place (tree trees b.program) (tree trees b.formula) (tree trees h) name (args ∙ ap (λ a. GivenFormula (tree trees h) ∷ a ∷ []) at.place)
+      at.stands))
       planned.known
 
   -- where a box stands, they ask for some steps

@@ -147,7 +147,8 @@ module _ (trees : List Tree) (target : Target) (boxed : Boxed) (cut : Cut) (s : 
 
   pub cutting_box_planned : (steps : List Step) (k g : List ℕ) (p q : List Pair) → k ≡ codes "K" → g ≡ codes "G" → p ≡ distributes boxed cut →
       q ≡ implies boxed cut → steps ≡ all_cuts target boxed cut k g p q →
-      ArePlanned trees steps (cutting_box target.rows (goal_at target s) boxed.place (tree trees boxed.program) (tree trees boxed.formula) (tree trees cut.formula))
+      ArePlanned trees steps (cutting_box target.rows (goal_at target s) boxed.place (tree trees boxed.program) (tree trees boxed.formula)
+      (tree trees cut.formula))
   cutting_box_planned steps k g p q ke ge pe qe steps_are =
       let e : steps ≡ all_cuts target boxed cut (codes "K") (codes "G") (distributes boxed cut) (implies boxed cut) =
       steps_are ∙ (λ i. all_cuts target boxed cut (ke i) (ge i) (pe i) (qe i)) in
@@ -219,7 +220,8 @@ two_later t u v o a b id far near ka kb made =
 -- the trees for a cut, made one after another
 module _ (t u v w : List Tree) (tu : Keeps t u) (tv : Keeps t v) (tw : Keeps t w) (uv : Keeps u v) (uw : Keeps u w) (vw : Keeps v w) (boxed : Boxed) (cut : Cut)
     (program : IsId t boxed.program) (formula : IsId t boxed.formula) (h : IsId t cut.formula)
-    (made : WellMade (box (tree t boxed.program) (tree t boxed.formula))) (implied : StandsFor v cut.implied (two op.Imply (tree u cut.formula) (tree u boxed.formula))) where
+    (made : WellMade (box (tree t boxed.program) (tree t boxed.formula)))
+    (implied : StandsFor v cut.implied (two op.Imply (tree u cut.formula) (tree u boxed.formula))) where
   pub last_fits : Fits op.Box (sort (tree v boxed.program) ∷ sort (tree v cut.implied) ∷ [])
   last_fits =
       let p = (box_sorts (tree t boxed.program) (tree t boxed.formula) made).program in

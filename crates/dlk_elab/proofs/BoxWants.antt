@@ -16,7 +16,8 @@ use Rattle.dlk_tacsyn.specs.declared.kind.Kind.TheVariants.{AnyPlace, QuotedForm
 use Rattle.dlk_tacsyn.specs.Rows.{AreOfKinds}
 use Rattle.dlk_tacsyn.specs.Tactics.{Argument, AtPlace, GivenFormula, Atom}
 use Rattle.dlk_uses.specs.Uses.{Spot, generalizing, cutting_box}
-use Rattle.dlk_elab.specs.Atoms.{NoPlace, AtStep, HasNoLocator, Steps, Refused, generalize, cut_box, no_box, not_on_the_right, IsForBox, generalizes, cuts, IsOnTheRight}
+use Rattle.dlk_elab.specs.Atoms.{NoPlace, AtStep, HasNoLocator, Steps, Refused, generalize, cut_box, no_box, not_on_the_right, IsForBox, generalizes}
+use Rattle.dlk_elab.specs.Atoms.{cuts, IsOnTheRight}
 use Rattle.dlk_elab.proofs.BoxOrNot.{box_or_not, right_or_not}
 use Rattle.dlk_elab.proofs.Given.{one_given, cut_given}
 use Rattle.dlk_elab.proofs.ProperSteps.{all_proper, generalizing_proper, cutting_proper}

@@ -111,7 +111,8 @@ module _ (trees : List Tree) where
       (none y.0 p.0 p.1).0 (λ i. y.1 i ∷ p.2 i ∷ [])
   use_fits (a ∷ b ∷ x ∷ []) h fixed none =
       let y = a_word a h.0 in
-      let p = a_place b h.1.0 (All-head IsFixed (argument_at trees b) (argument_at trees x ∷ []) (All-tail IsFixed (argument_at trees a) (argument_at trees b ∷ argument_at trees x ∷ []) fixed)) in
+      let p = a_place b h.1.0 (All-head IsFixed (argument_at trees b) (argument_at trees x ∷ [])
+      (All-tail IsFixed (argument_at trees a) (argument_at trees b ∷ argument_at trees x ∷ []) fixed)) in
       let e = an_extra x h.1.1.0 in
       (none y.0 p.0 p.1).1 e.0 (λ i. y.1 i ∷ p.2 i ∷ e.1 i ∷ [])
   use_fits (a ∷ b ∷ x ∷ z ∷ rest) h fixed none = h.1.1.1
@@ -155,7 +156,8 @@ module _ (trees : List Tree) (args : List Arg) (named at : Arg) (y : List ℕ) (
     (place_is : at ≡ arg.At place path) where
   given_said : (o : Option Extra) → GivenBehind args named at o → UseArguments (map (argument_at trees) args) y place path (given_at trees o)
   given_said None e =
-      subst (λ (xs : List Arg). UseArguments (map (argument_at trees) xs) y place path (given_at trees None)) (sym (e ∙ (λ i. name_is i ∷ place_is i ∷ []))) alone
+      subst (λ (xs : List Arg). UseArguments (map (argument_at trees) xs) y place path (given_at trees None))
+      (sym (e ∙ (λ i. name_is i ∷ place_is i ∷ []))) alone
   given_said (Some extra) e =
       subst (λ (xs : List Arg). UseArguments (map (argument_at trees) xs) y place path (given_at trees (Some extra)))
       (sym (e ∙ (λ i. name_is i ∷ place_is i ∷ arg.With extra ∷ []))) with_extra
@@ -178,7 +180,8 @@ pub use_named : (d : CodeDirection) (args : List Arg) (u : UseCall) (name : List
     name ≡ word_of_direction (direction_of u.direction)
 use_named d args u name h e = e ∙ ap (λ (x : CodeDirection). word_of_direction (direction_of x)) (sym h.says.direction_is)
 
-pub use_known : (trees : List Tree) (d : CodeDirection) (args all : List Arg) (u : UseCall) → all ≡ args → IsUseCall d all u → All (ArgumentIsKnown trees) args →
+pub use_known : (trees : List Tree) (d : CodeDirection) (args all : List Arg) (u : UseCall) → all ≡ args → IsUseCall d all u →
+    All (ArgumentIsKnown trees) args →
     GivenIsKnown trees (option_copied u.given)
 use_known trees d args all u same h known =
     given_known trees all h.named h.at (option_copied u.given) h.given (subst (All (ArgumentIsKnown trees)) (sym same) known)

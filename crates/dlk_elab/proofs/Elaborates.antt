@@ -22,7 +22,8 @@ use Rattle.dlk_kernel.specs.Faults.{IsStepFault}
 use Rattle.dlk_kernel.specs.Taken.{Takes, none, more}
 use Rattle.dlk_elab.specs.declared.fault.TacFault.{TacFault}
 use Rattle.dlk_elab.specs.declared.fault.TacFault.TheVariants as fault
-use Rattle.dlk_elab.specs.Atoms.{FailWhy, UnknownName, NoPlace, NoMatch, AtStep, HasGoalAt, Steps, Refused, Asks, AtomSteps, uses, FirstFault, AtomFault, asks_none, not_taken, instance_of}
+use Rattle.dlk_elab.specs.Atoms.{FailWhy, UnknownName, NoPlace, NoMatch, AtStep, HasGoalAt, Steps, Refused, Asks, AtomSteps, uses, FirstFault}
+use Rattle.dlk_elab.specs.Atoms.{AtomFault, asks_none, not_taken, instance_of}
 use Rattle.dlk_elab.specs.Atoms.{asked as by_asking}
 use Rattle.dlk_elab.specs.Ties.{IsTacFault, of_step, AreAsked, AsksSome, AreMade}
 
@@ -138,7 +139,8 @@ taken_proper rows _ _ (more {steps} {mid} {step} {p} taken is) =
     All-append IsProper steps (step ∷ []) (taken_proper rows mid steps taken)
     (All-cons IsProper step [] (gives_proper mid step p is.given) (All-nil IsProper))
 
-pub made_proper : (rows after : List Provable) (fact goal : ℕ) (atom : Atom) (steps : List TreeStep) → AtomSteps rows fact goal atom steps after → All IsProper steps
+pub made_proper : (rows after : List Provable) (fact goal : ℕ) (atom : Atom) (steps : List TreeStep) → AtomSteps rows fact goal atom steps after →
+    All IsProper steps
 made_proper rows after fact goal atom _ (by_asking s is_goal asks takes) = taken_proper rows after _ takes
 made_proper rows after fact goal atom _ (uses s used extra e between rest is_goal asks first finishes then_on) =
     All-append IsProper (instance_of (length rows) used extra) rest (taken_proper rows between _ first) (taken_proper between after rest then_on)

@@ -21,7 +21,8 @@ exchange_known trees spot (Ante i) Forwards new known = all_known trees (exchang
 exchange_known trees spot (Ante i) Backwards new known = all_known trees (exchange_rules spot (Ante i) Backwards new) (known, (tt, (tt, (tt, tt))))
 
 exchanged_as : (trees : List Tree) (by rows : ℕ) (spot : Spot) (s : Sequent) (place : Place) (direction : Direction) (new : Id) →
-    closed_by by spot.fact rows (goals_and_rules trees (exchange_rules (record { fact = spot.fact; goal = spot.goal; right = length s.succ }) place direction new)) (spot.goal + 1)
+    closed_by by spot.fact rows (goals_and_rules trees
+    (exchange_rules (record { fact = spot.fact; goal = spot.goal; right = length s.succ }) place direction new)) (spot.goal + 1)
     ≡ exchange by rows (spot_at spot s) place direction (tree trees new)
 exchanged_as trees by rows spot s (Succ j) Forwards new = refl
 exchanged_as trees by rows spot s (Succ j) Backwards new = refl
@@ -34,5 +35,6 @@ pub exchange_planned : (trees : List Tree) (by rows : ℕ) (spot : Spot) (s : Se
     ArePlanned trees steps (exchange by rows (spot_at spot s) place direction (tree trees new))
 exchange_planned trees by rows spot s place direction new steps right planned =
     subst (ArePlanned trees steps) (exchanged_as trees by rows spot s place direction new)
-    (subst (λ n. ArePlanned trees steps (closed_by by spot.fact rows (goals_and_rules trees (exchange_rules (record { fact = spot.fact; goal = spot.goal; right = n }) place direction new)) (spot.goal + 1)))
+    (subst (λ n. ArePlanned trees steps (closed_by by spot.fact rows
+    (goals_and_rules trees (exchange_rules (record { fact = spot.fact; goal = spot.goal; right = n }) place direction new)) (spot.goal + 1)))
     right planned)

@@ -10,7 +10,9 @@ use Rattle.dlk_calculus.specs.Paths.{IsInnermost}
 use Rattle.dlk_calculus.specs.Sequents.{Sequent}
 use Rattle.dlk_sequent.specs.declared.sequent.Place.TheVariants.{Succ}
 use Rattle.dlk_rules.specs.declared.step.Step.{Step}
-use Rattle.dlk_uses.specs.Uses.{Direction, Forwards, Backwards, Finishes, equivalence, equation, conditional_equivalence, conditional_equation, implication, fact, left_of, right_of, by_equivalence, by_equation, by_conditional_equivalence, by_conditional_equation, by_implication, by_fact}
+use Rattle.dlk_uses.specs.Uses.{Direction, Forwards, Backwards, Finishes, equivalence, equation, conditional_equivalence, conditional_equation}
+use Rattle.dlk_uses.specs.Uses.{implication, fact, left_of, right_of, by_equivalence, by_equation, by_conditional_equivalence}
+use Rattle.dlk_uses.specs.Uses.{by_conditional_equation, by_implication, by_fact}
 use Rattle.dlk_elab.specs.declared.forms.Aim.{Aim}
 use Rattle.dlk_elab.specs.declared.forms.Exchanged.{Exchanged}
 use Rattle.dlk_elab.specs.declared.forms.Equated.{Equated}
@@ -36,7 +38,8 @@ long trees (i ∷ []) a b e = absurd (cc e)
 long trees (i ∷ j ∷ []) a b e = refl
 long trees (i ∷ j ∷ k ∷ ids) a b e = absurd (cc e)
 
-pub two_long : (trees : List Tree) (t : Tree) (op : Op) (ids : List Id) → t ≡ node op (kid_trees trees ids) → kids_of t ≡ left_of t ∷ right_of t ∷ [] → length ids ≡ 2
+pub two_long : (trees : List Tree) (t : Tree) (op : Op) (ids : List Id) → t ≡ node op (kid_trees trees ids) → kids_of t ≡ left_of t ∷ right_of t ∷ [] →
+    length ids ≡ 2
 two_long trees t op ids is two = long trees ids (left_of t) (right_of t) (ap kids_of (sym is) ∙ two)
 
 pub side_sort : (direction : Direction) (l r : Tree) → sort l ≡ Formula → sort r ≡ Formula → sort (new_side direction l r) ≡ Formula
@@ -49,7 +52,8 @@ exchange_same {trees} {direction} {path} {e} {e'} {l} {l'} {r} {r'} x ee ll rr a
     subst (λ t. AreExchangeTrees trees direction t path l' r' x) ee
     (subst (λ t. AreExchangeTrees trees direction e path t r' x) ll (subst (λ t. AreExchangeTrees trees direction e path l t x) rr are))
 
-pub equated_on : {old new : List Tree} {path : List ℕ} {d d' l r : Tree} (y : Equated) → Keeps old new → d ≡ d' → AreEquatedTrees old d path l r y → AreEquatedTrees new d' path l r y
+pub equated_on : {old new : List Tree} {path : List ℕ} {d d' l r : Tree} (y : Equated) → Keeps old new → d ≡ d' → AreEquatedTrees old d path l r y →
+    AreEquatedTrees new d' path l r y
 equated_on {old} {new} {path} {d} {d'} {l} {r} y keeps dd are =
     subst (λ t. AreEquatedTrees new t path l r y) dd
     (record { left = stands_on keeps y.left are.left; right = stands_on keeps y.right are.right; context = stands_on keeps y.context are.context })
@@ -58,17 +62,20 @@ equated_on {old} {new} {path} {d} {d'} {l} {r} y keeps dd are =
 
 module _ (trees : List Tree) (now : ℕ) (aim : Aim) (path : List ℕ) (e f : Tree) (steps : List Step) where
   pub equivalence_finished : (l r : Tree) → l ≡ left_of f → r ≡ right_of f →
-      ((s : Sequent) → aim.spot.right ≡ length s.succ → ArePlanned trees steps (by_equivalence now (spot_at aim.spot s) aim.place (direction_of aim.direction) e path l r)) →
+      ((s : Sequent) → aim.spot.right ≡ length s.succ →
+      ArePlanned trees steps (by_equivalence now (spot_at aim.spot s) aim.place (direction_of aim.direction) e path l r)) →
       FinishUses trees now aim E path e f steps
   equivalence_finished l r ll rr planned s used right says = record {
     finishes = subst (Finishes now (spot_at aim.spot s) used e f)
-        ((λ i. by_equivalence now (spot_at aim.spot s) (says.place_is i) (says.direction_is i) e (says.path_is i) (sym ll i) (sym rr i)) ∙ sym (planned s right).are)
+        ((λ i. by_equivalence now (spot_at aim.spot s) (says.place_is i) (says.direction_is i) e (says.path_is i) (sym ll i) (sym rr i))
+        ∙ sym (planned s right).are)
         (equivalence says.form_is);
     known = (planned s right).known;
   }
 
   pub equation_finished : (outer inner : List ℕ) (d l r : Tree) → l ≡ left_of f → r ≡ right_of f → IsInnermost e path outer inner d →
-      ((s : Sequent) → aim.spot.right ≡ length s.succ → ArePlanned trees steps (by_equation now (spot_at aim.spot s) aim.place (direction_of aim.direction) e outer inner d l r)) →
+      ((s : Sequent) → aim.spot.right ≡ length s.succ →
+      ArePlanned trees steps (by_equation now (spot_at aim.spot s) aim.place (direction_of aim.direction) e outer inner d l r)) →
       FinishUses trees now aim Q path e f steps
   equation_finished outer inner d l r ll rr innermost planned s used right says = record {
     finishes = subst (Finishes now (spot_at aim.spot s) used e f)
@@ -84,7 +91,8 @@ module _ (trees : List Tree) (now : ℕ) (aim : Aim) (path : List ℕ) (e f : Tr
       FinishUses trees now aim R path e f steps
   conditional_equation_finished outer inner d b l r bb ll rr innermost planned s used right says = record {
     finishes = subst (Finishes now (spot_at aim.spot s) used e f)
-        ((λ i. by_conditional_equation now (spot_at aim.spot s) (says.place_is i) (says.direction_is i) e outer inner d (sym bb i) (sym ll i) (sym rr i)) ∙ sym (planned s right).are)
+        ((λ i. by_conditional_equation now (spot_at aim.spot s) (says.place_is i) (says.direction_is i) e outer inner d (sym bb i) (sym ll i) (sym rr i))
+        ∙ sym (planned s right).are)
         (conditional_equation outer inner d says.form_is (subst (λ p. IsInnermost e p outer inner d) (sym says.path_is) innermost));
     known = (planned s right).known;
   }
@@ -99,7 +107,8 @@ module _ (trees : List Tree) (now : ℕ) (aim : Aim) (path : List ℕ) (e f : Tr
   }
 
   pub implication_finished : (b h : Tree) → b ≡ left_of f → h ≡ right_of f →
-      ((s : Sequent) → aim.spot.right ≡ length s.succ → ArePlanned trees steps (by_implication now (spot_at aim.spot s) aim.place b h)) → FinishUses trees now aim I path e f steps
+      ((s : Sequent) → aim.spot.right ≡ length s.succ → ArePlanned trees steps (by_implication now (spot_at aim.spot s) aim.place b h)) →
+      FinishUses trees now aim I path e f steps
   implication_finished b h bb hh planned s used right says = record {
     finishes = subst (Finishes now (spot_at aim.spot s) used e f)
         ((λ i. by_implication now (spot_at aim.spot s) (says.place_is i) (sym bb i) (sym hh i)) ∙ sym (planned s right).are)
@@ -107,7 +116,8 @@ module _ (trees : List Tree) (now : ℕ) (aim : Aim) (path : List ℕ) (e f : Tr
     known = (planned s right).known;
   }
 
-  pub fact_finished : (j : ℕ) → aim.place ≡ Succ j → ((s : Sequent) → ArePlanned trees steps (by_fact now (spot_at aim.spot s) j)) → FinishUses trees now aim F path e f steps
+  pub fact_finished : (j : ℕ) → aim.place ≡ Succ j → ((s : Sequent) → ArePlanned trees steps (by_fact now (spot_at aim.spot s) j)) →
+      FinishUses trees now aim F path e f steps
   fact_finished j place planned s used right says = record {
     finishes = subst (Finishes now (spot_at aim.spot s) used e f) (sym (planned s).are) (fact j says.form_is (says.place_is ∙ place));
     known = (planned s).known;

@@ -16,7 +16,8 @@ use Rattle.dlk_sequent.specs.declared.sequent.Place.{Place}
 use Rattle.dlk_sequent.specs.Sequents.{IsKnown}
 use Rattle.dlk_sequent.specs.Substitutions.{AreKnownPairs}
 use Rattle.dlk_rules.specs.declared.step.Step.{Step}
-use Rattle.dlk_uses.specs.Uses.{Direction, Forwards, Backwards, ◌~>◌, any_p, any_q, any_f, any_g, p_of_one, context_c, exchange, by_equivalence, by_equation, by_conditional_equation}
+use Rattle.dlk_uses.specs.Uses.{Direction, Forwards, Backwards, ◌~>◌, any_p, any_q, any_f, any_g, p_of_one, context_c, exchange, by_equivalence}
+use Rattle.dlk_uses.specs.Uses.{by_equation, by_conditional_equation}
 use Rattle.dlk_elab.specs.declared.spot.Spot.{Spot}
 use Rattle.dlk_elab.specs.declared.forms.Exchanged.{Exchanged}
 use Rattle.dlk_elab.specs.declared.forms.Equated.{Equated}
@@ -62,13 +63,15 @@ pub equivalence_planned : (trees : List Tree) (now : ℕ) (spot : Spot) (s : Seq
     ArePlanned trees more (exchange (now + 3) (now + 3) (spot_at spot s) place direction (tree trees x.new)) → steps ≡ first ++ more →
     ArePlanned trees steps (by_equivalence now (spot_at spot s) place direction e path l r)
 equivalence_planned trees now spot s place Forwards e path l r x first more steps is first_is planned all =
-    both_planned trees first more steps (in_context_of now l r (put_at e path (leaf Hole))) (exchange (now + 3) (now + 3) (spot_at spot s) place Forwards (put_at e path r))
+    both_planned trees first more steps (in_context_of now l r (put_at e path (leaf Hole)))
+    (exchange (now + 3) (now + 3) (spot_at spot s) place Forwards (put_at e path r))
     (subst (λ f. ArePlanned trees f (in_context_of now l r (put_at e path (leaf Hole)))) (sym first_is)
     (contextual_planned trees now x l r (put_at e path (leaf Hole)) is.left is.right is.context))
     (subst (λ t. ArePlanned trees more (exchange (now + 3) (now + 3) (spot_at spot s) place Forwards t)) is.new.tree_is planned)
     all
 equivalence_planned trees now spot s place Backwards e path l r x first more steps is first_is planned all =
-    both_planned trees first more steps (in_context_of now l r (put_at e path (leaf Hole))) (exchange (now + 3) (now + 3) (spot_at spot s) place Backwards (put_at e path l))
+    both_planned trees first more steps (in_context_of now l r (put_at e path (leaf Hole)))
+    (exchange (now + 3) (now + 3) (spot_at spot s) place Backwards (put_at e path l))
     (subst (λ f. ArePlanned trees f (in_context_of now l r (put_at e path (leaf Hole)))) (sym first_is)
     (contextual_planned trees now x l r (put_at e path (leaf Hole)) is.left is.right is.context))
     (subst (λ t. ArePlanned trees more (exchange (now + 3) (now + 3) (spot_at spot s) place Backwards t)) is.new.tree_is planned)

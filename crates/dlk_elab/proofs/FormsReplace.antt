@@ -13,9 +13,13 @@ use Rattle.dlk_calculus.proofs.PlaceLaws.{at_one, At-more, At-between}
 use Rattle.dlk_sequent.specs.declared.sequent.Place.{Place}
 use Rattle.dlk_sequent.specs.declared.sequent.Place.TheVariants.{Ante, Succ}
 use Rattle.dlk_kernel.specs.Taken.{Takes}
-use Rattle.dlk_uses.specs.Uses.{Direction, Forwards, Backwards, Use, Spot, closed_by, exchange, by_equivalence, by_equation, by_conditional_equation, by_conditional_equivalence, by_implication, by_fact, generalizing, cutting_box, ◌~>◌, program_a, any_p, Finishes, equivalence, equation, conditional_equivalence, conditional_equation, implication, fact}
+use Rattle.dlk_uses.specs.Uses.{Direction, Forwards, Backwards, Use, Spot, closed_by, exchange, by_equivalence, by_equation, by_conditional_equation}
+use Rattle.dlk_uses.specs.Uses.{by_conditional_equivalence, by_implication, by_fact, generalizing, cutting_box, ◌~>◌, program_a, any_p, Finishes}
+use Rattle.dlk_uses.specs.Uses.{equivalence, equation, conditional_equivalence, conditional_equation, implication, fact}
 use Rattle.dlk_uses.proofs.Taking.{takes_none, takes_first}
-use Rattle.dlk_elab.proofs.Replacing.{Behind, Makes, Turns, no_more, turn, Ends, closed, last_at, behind_rule, behind_merge, From, pass, makes_close, makes_cut, makes_cut_left, makes_cut_right, makes_hide, makes_imply_left, makes_imply_right, makes_equivify, makes_commute}
+use Rattle.dlk_elab.proofs.Replacing.{Behind, Makes, Turns, no_more, turn, Ends, closed, last_at, behind_rule, behind_merge, From, pass, makes_close}
+use Rattle.dlk_elab.proofs.Replacing.{makes_cut, makes_cut_left, makes_cut_right, makes_hide, makes_imply_left, makes_imply_right, makes_equivify}
+use Rattle.dlk_elab.proofs.Replacing.{makes_commute}
 
 module _ (p : Provable) (goal : ℕ) (there : IsPlace p.goals goal) (after : List Provable) (main : ℕ) (s : Sequent) (b : Behind p goal 1 p) where
   abbrev spot : Spot
@@ -41,7 +45,8 @@ module _ (p : Provable) (goal : ℕ) (there : IsPlace p.goals goal) (after : Lis
   exchanged : (by n count : ℕ) (place : Place) (direction : Direction) (new : Tree) → n ≡ count →
       From after main n p (exchange by count spot place direction new) → Ends p goal there after
   exchanged by n count (Succ j) Forwards new e h =
-      ended n count 2 1 by (goal + 1) 2 (CutR j new) ((goal + 1, CoHideR j) ∷ (goal + 1, EquivifyR 1) ∷ (goal + 1, CommuteEquivR 1) ∷ []) (makes_cut_right j new)
+      ended n count 2 1 by (goal + 1) 2 (CutR j new) ((goal + 1, CoHideR j) ∷ (goal + 1, EquivifyR 1) ∷ (goal + 1, CommuteEquivR 1) ∷ [])
+      (makes_cut_right j new)
       (one_more (CoHideR j) ((goal + 1, EquivifyR 1) ∷ (goal + 1, CommuteEquivR 1) ∷ []) (makes_hide j)
       (one_more (EquivifyR 1) ((goal + 1, CommuteEquivR 1) ∷ []) (makes_equivify 1) (one_more (CommuteEquivR 1) [] (makes_commute 1) no_more)))
       (omega arith) refl e h
@@ -83,11 +88,13 @@ module _ (p : Provable) (goal : ℕ) (there : IsPlace p.goals goal) (after : Lis
 
   by_implication_ends : (now n : ℕ) (place : Place) (c h : Tree) → n ≡ now → From after main n p (by_implication now spot place c h) → Ends p goal there after
   by_implication_ends now n (Succ j) c h same from =
-      ended n now 2 1 now (goal + 1) 2 (CutR j c) ((goal + 1, CoHideR j) ∷ []) (makes_cut_right j c) (one_more (CoHideR j) [] (makes_hide j) no_more) (omega arith)
+      ended n now 2 1 now (goal + 1) 2 (CutR j c) ((goal + 1, CoHideR j) ∷ []) (makes_cut_right j c) (one_more (CoHideR j) [] (makes_hide j) no_more)
+      (omega arith)
       refl same from
   by_implication_ends now n (Ante i) c h same from =
       let k = length s.succ + 1 in
-      ended n now 2 1 now (goal + 1) 2 (CutL i h) ((goal + 1, CoHideR k) ∷ []) (makes_cut_left i h) (one_more (CoHideR k) [] (makes_hide k) no_more) (omega arith)
+      ended n now 2 1 now (goal + 1) 2 (CutL i h) ((goal + 1, CoHideR k) ∷ []) (makes_cut_left i h) (one_more (CoHideR k) [] (makes_hide k) no_more)
+      (omega arith)
       refl same from
 
   by_fact_ends : (now n j : ℕ) → n ≡ now → From after main n p (by_fact now spot j) → Ends p goal there after
@@ -197,7 +204,8 @@ module _ (p : Provable) (goal : ℕ) (there : IsPlace p.goals goal) (after : Lis
       Behind p goal n q → n ≡ 3 → Makes rule 1 →
       Takes rows (Merge m (goal + 2) instance ∷ Merge (m + 1) (goal + 1) by ∷ Apply (m + 1 + 1) (goal + 1) rule ∷ []) after → Ends p goal there after
   cut_first rows m instance by n q d rule counted stands by_at one behind three makes taken =
-      let o = next rows after m (m + 1) (Merge m (goal + 2) instance) (Merge (m + 1) (goal + 1) by ∷ Apply (m + 1 + 1) (goal + 1) rule ∷ []) counted refl taken in
+      let o = next rows after m (m + 1) (Merge m (goal + 2) instance) (Merge (m + 1) (goal + 1) by ∷ Apply (m + 1 + 1) (goal + 1) rule ∷ []) counted refl
+      taken in
       let h = behind_merge p goal there rows m n 2 instance q o.row stands behind (omega (arith, three)) o.gives in
       cut_second (rows ++ o.row ∷ []) (m + 1) by (n - 1 + length h.0.goals) o.row d rule o.count o.at (At-more rows (o.row ∷ []) by d by_at) one h.2
       (omega (arith, three)) makes o.others
@@ -210,7 +218,8 @@ module _ (p : Provable) (goal : ℕ) (there : IsPlace p.goals goal) (after : Lis
   cut_rules rows main m instance by d one two three four counted stands by_at single behind m1 m2 m3 m4 taken =
       let zero_more : goal ≡ goal + 0 = omega arith in
       let a = next rows after m (m + 1) (Apply main goal one) _ counted refl taken in
-      let ba : Behind p goal 2 a.row = behind_rule p goal there rows main 1 0 2 one p a.row stands behind (omega arith) m1 (subst (λ k. Gives rows (Apply main k one)
+      let ba : Behind p goal 2 a.row = behind_rule p goal there rows main 1 0 2 one p a.row stands behind (omega arith) m1
+      (subst (λ k. Gives rows (Apply main k one)
       a.row) zero_more a.gives) in
       let rows_a = rows ++ a.row ∷ [] in
       let e = next rows_a after (m + 1) (m + 1 + 1) (Apply (m + 1) (goal + 1) two) _ a.count refl a.others in
@@ -271,5 +280,6 @@ cutting_box_ends p goal there after main s b now j c f h from =
     (CutR 1 (box c (imply h f))) (ImplyR 1) w.count w.stands b (makes_cut_right j (box c h)) (makes_hide j) (makes_cut_right 1 (box c (imply h f)))
     (makes_imply_right 1)
     (subst (λ xs. Takes w.rows xs after)
-    (λ i. CutSteps main goal (now + 2) ((program_a ~> c) ∷ (any_p ~> imply h f) ∷ []) j (box c h) (box c (imply h f)) (k.three i) (k.four i) (k.five i) (k.six i)
+    (λ i. CutSteps main goal (now + 2) ((program_a ~> c) ∷ (any_p ~> imply h f) ∷ []) j (box c h) (box c (imply h f)) (k.three i) (k.four i) (k.five i)
+    (k.six i)
     (k.seven i) (k.eight i) (k.nine i)) w.taken)

@@ -21,8 +21,10 @@ use Rattle.dlk_tacsyn.specs.Tactics.{Atom}
 use Rattle.dlk_uses.specs.Applying.{Applies}
 use Rattle.dlk_uses.specs.Taking.{FirstFault}
 use Rattle.dlk_uses.specs.Uses.{Use, Spot, instance, FinishesBehind, generalizing, cutting_box}
-use Rattle.dlk_elab.specs.Atoms.{FailWhy, AtStep, Asked, Steps, Instance, Refused, Asks, use_axiom, AtomFault, asks_none, not_taken, not_instantiated, not_used, IsByAxioms}
-use Rattle.dlk_elab.proofs.AskLaws.{AsksPlainly, AsksBox, by_generalize, by_cut_box, by_no_box, by_not_on_the_right, AsksUse, by_use_axiom, by_no_axiom, by_not_there, by_no_match, plainly, for_box, for_use, view, plain_other}
+use Rattle.dlk_elab.specs.Atoms.{FailWhy, AtStep, Asked, Steps, Instance, Refused, Asks, use_axiom, AtomFault, asks_none, not_taken, not_instantiated}
+use Rattle.dlk_elab.specs.Atoms.{not_used, IsByAxioms}
+use Rattle.dlk_elab.proofs.AskLaws.{AsksPlainly, AsksBox, by_generalize, by_cut_box, by_no_box, by_not_on_the_right, AsksUse, by_use_axiom}
+use Rattle.dlk_elab.proofs.AskLaws.{by_no_axiom, by_not_there, by_no_match, plainly, for_box, for_use, view, plain_other}
 use Rattle.dlk_elab.proofs.AtomLaws.{same_instance}
 
 found_holds : (p : Axiom → Bool) (xs : List Axiom) (a : Axiom) → find p xs ≡ Some a → p a ≡ true

@@ -5,12 +5,14 @@ use Rattle.dlk_calculus.specs.Paths.{IsInnermost}
 use Rattle.dlk_calculus.specs.Steps.{Step}
 use Rattle.dlk_sequent.specs.declared.sequent.Place.{Place}
 use Rattle.dlk_sequent.specs.declared.sequent.Place.TheVariants.{Succ}
-use Rattle.dlk_uses.specs.Uses.{Use, Spot, left_of, right_of, by_equation, by_conditional_equation, by_conditional_equivalence, by_fact, Finishes, equivalence, equation, conditional_equivalence, conditional_equation, implication, fact}
+use Rattle.dlk_uses.specs.Uses.{Use, Spot, left_of, right_of, by_equation, by_conditional_equation, by_conditional_equivalence, by_fact, Finishes}
+use Rattle.dlk_uses.specs.Uses.{equivalence, equation, conditional_equivalence, conditional_equation, implication, fact}
 
 same_right : (p : Place) (j k : ℕ) → p ≡ Succ j → p ≡ Succ k → j ≡ k
 same_right p j k a b = let e = sym a ∙ b in cc
 
-module _ (one_innermost : (e : Tree) (path a b c d : List ℕ) (f g : Tree) → IsInnermost e path a b f → IsInnermost e path c d g → (a ≡ c) × (b ≡ d) × (f ≡ g)) where
+module _ (one_innermost : (e : Tree) (path a b c d : List ℕ) (f g : Tree) → IsInnermost e path a b f → IsInnermost e path c d g →
+    (a ≡ c) × (b ≡ d) × (f ≡ g)) where
   pub finishes_one : (now : ℕ) (spot : Spot) (used : Use) (e f : Tree) (steps more : List Step) → Finishes now spot used e f steps →
       Finishes now spot used e f more → steps ≡ more
   finishes_one now spot used e f _ _ (equivalence is) (equivalence is_) = refl

@@ -62,7 +62,8 @@ module _ (rows fact goal : ℕ) (trees : List Tree) (s : Sequent) (atom : Atom) 
   }
 
 -- where a fitting atom for a rule says no arguments of it, a place is elsewhere
-pub no_place : (rows fact goal : ℕ) (s : TreeSequent) (atom : TreeAtom) (w : RuleWord) → atom.name ≡ text_of w → is_bare (text_of w) ≡ false → IsPlain (text_of w) →
+pub no_place : (rows fact goal : ℕ) (s : TreeSequent) (atom : TreeAtom) (w : RuleWord) → atom.name ≡ text_of w → is_bare (text_of w) ≡ false →
+    IsPlain (text_of w) →
     IsFitting atom → HasNoLocator atom → HasNone (wanted w) (side_of w) atom.arguments → Asks rows fact goal s atom (Refused NoPlace)
 no_place rows fact goal s atom w name bare plain fitting fixed none =
     let row_is = row_of_word w fitting.row bare plain (rw name at fitting.row_is) in

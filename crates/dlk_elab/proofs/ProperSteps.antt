@@ -11,7 +11,9 @@ use Rattle.dlk_calculus.specs.Rules.{imply}
 use Rattle.dlk_calculus.specs.Steps.{Step, IsProper}
 use Rattle.dlk_sequent.specs.declared.sequent.Place.{Place}
 use Rattle.dlk_sequent.specs.declared.sequent.Place.TheVariants.{Ante, Succ}
-use Rattle.dlk_uses.specs.Uses.{Direction, Forwards, Backwards, Spot, ◌~>◌, program_a, any_p, any_q, any_f, any_g, p_of_one, context_c, exchange, by_equivalence, by_equation, by_conditional_equation, by_conditional_equivalence, by_implication, by_fact, generalizing, cutting_box}
+use Rattle.dlk_uses.specs.Uses.{Direction, Forwards, Backwards, Spot, ◌~>◌, program_a, any_p, any_q, any_f, any_g, p_of_one, context_c, exchange}
+use Rattle.dlk_uses.specs.Uses.{by_equivalence, by_equation, by_conditional_equation, by_conditional_equivalence, by_implication, by_fact}
+use Rattle.dlk_uses.specs.Uses.{generalizing, cutting_box}
 
 -- each step is proper, one by one
 abbrev pub EachProper : List Step → Type 0

@@ -27,11 +27,14 @@ use Rattle.dlk_sequent.specs.declared.sequent.Place.TheVariants.{Ante, Succ}
 use Rattle.dlk_kernel.specs.Taken.{Takes}
 use Rattle.dlk_match.specs.Instances.{AreNames}
 use Rattle.dlk_match.specs.Matching.{Match}
-use Rattle.dlk_uses.specs.Uses.{Direction, Forwards, Backwards, Use, Spot, key, left_of, right_of, may_stand, is_forwards, is_on_the_right, is_whole, HasShape, ProvesLast}
-use Rattle.dlk_uses.specs.Uses.{renaming, substituting, instance, by_equivalence, by_equation, by_conditional_equation, by_conditional_equivalence, by_implication, by_fact}
+use Rattle.dlk_uses.specs.Uses.{Direction, Forwards, Backwards, Use, Spot, key, left_of, right_of, may_stand, is_forwards, is_on_the_right, is_whole}
+use Rattle.dlk_uses.specs.Uses.{HasShape, ProvesLast}
+use Rattle.dlk_uses.specs.Uses.{renaming, substituting, instance, by_equivalence, by_equation, by_conditional_equation, by_conditional_equivalence}
+use Rattle.dlk_uses.specs.Uses.{by_implication, by_fact}
 use Rattle.dlk_uses.specs.Uses.{Finishes, FinishesBehind, equivalence, equation, conditional_equivalence, conditional_equation, implication, fact}
 use Rattle.dlk_elab.specs.Atoms.{MatchesThere}
-use Rattle.dlk_elab.proofs.ProperSteps.{all_proper, equivalence_proper, EquationMade, equation_proper, conditional_equation_proper, conditional_equivalence_proper, implication_proper, fact_proper}
+use Rattle.dlk_elab.proofs.ProperSteps.{all_proper, equivalence_proper, EquationMade, equation_proper, conditional_equation_proper}
+use Rattle.dlk_elab.proofs.ProperSteps.{conditional_equivalence_proper, implication_proper, fact_proper}
 
 -- what laws say of paths, of matches and of the instances of axioms
 pub record Laws : Type 0 where

@@ -37,7 +37,8 @@ module _ (rows : List Provable) (target : Target) (trees : List Tree) (s : Seque
       IsReached rows target trees place path (record { way = way; right = length s.succ })
   reached way formulas few at =
       let starts = at.spine.starts in
-      let stands : formula_at (sequent_at trees s) place ≡ Some (tree trees (top way)) = subst (λ (x : Id). formula_at (sequent_at trees s) place ≡ Some (tree trees
+      let stands : formula_at (sequent_at trees s) place ≡ Some (tree trees (top way)) =
+      subst (λ (x : Id). formula_at (sequent_at trees s) place ≡ Some (tree trees
       x)) (sym starts) at.stands in
       record {
         s = sequent_at trees s;

@@ -126,7 +126,8 @@ replaced_by rows after goal p s atom steps _ stands here (a_rule word rule name 
 replaced_by rows after goal p s atom steps _ stands here (generalize j b f name given at) e taken =
     let are = steps_are (generalizing (length rows) (record { fact = length rows; goal = goal; s = s }) j b f) steps e in
     let there = At_place p.goals goal s here in
-    ended_replaces rows after goal p there stands (generalizing_ends p goal there after (length rows) s (begun p goal s here) (length rows) (length rows) j b f refl
+    ended_replaces rows after goal p there stands
+    (generalizing_ends p goal there after (length rows) s (begun p goal s here) (length rows) (length rows) j b f refl
     (record { rows = rows; count = refl; stands = stands; taken = subst (λ xs. Takes rows xs after) (sym are) taken }))
 replaced_by rows after goal p s atom steps _ stands here (cut_box j b f h name given at) e taken =
     let are = steps_are (cutting_box (length rows) (record { fact = length rows; goal = goal; s = s }) j b f h) steps e in

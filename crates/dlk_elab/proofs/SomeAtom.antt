@@ -27,7 +27,10 @@ use Rattle.dlk_tacsyn.specs.Tactics.{Atom, Argument, Word}
 use Rattle.dlk_tacsyn.specs.Rows.{Row, wants, row_of, is_bare, is_use, kinds_of, AreOfKinds, IsFitting}
 use Rattle.dlk_uses.specs.Uses.{Direction, Forwards, Backwards}
 use Rattle.dlk_elab.specs.Atoms.{asked as by_asking}
-use Rattle.dlk_elab.specs.Atoms.{uses, Instance, instance_of, not_instantiated, not_used, FailWhy, NoPlace, AtStep, AreFor, one_place, two_places, place_and_formula, one_formula, place_and_name, HasNoLocator, IsNamed, HasNames, HasGoalAt, Asked, Steps, Refused, Asks, nil, close, nothing_same, leaf, a_rule, elsewhere, AtomSteps, AtomFault, asks_none, not_taken, word_of_direction}
+use Rattle.dlk_elab.specs.Atoms.{uses, Instance, instance_of, not_instantiated, not_used, FailWhy, NoPlace, AtStep, AreFor, one_place, two_places}
+use Rattle.dlk_elab.specs.Atoms.{place_and_formula, one_formula, place_and_name, HasNoLocator, IsNamed, HasNames, HasGoalAt, Asked, Steps, Refused}
+use Rattle.dlk_elab.specs.Atoms.{Asks, nil, close, nothing_same, leaf, a_rule, elsewhere, AtomSteps, AtomFault, asks_none, not_taken}
+use Rattle.dlk_elab.specs.Atoms.{word_of_direction}
 use Rattle.dlk_elab.specs.Calls.{IsPlain}
 use Rattle.dlk_elab.proofs.BoxWants.{wants_generalize, wants_cut}
 use Rattle.dlk_elab.proofs.CallsFit.{row_of_generalize, row_of_cut, use_row, row_of_use, row_of_use_back}

@@ -24,7 +24,8 @@ use Rattle.dlk_elab.specs.declared.fault.TacFault.{TacFault}
 use Rattle.dlk_elab.specs.declared.keys.Named.{Named}
 use Rattle.dlk_elab.specs.declared.plan.Target.{Target}
 use Rattle.dlk_elab.specs.declared.ways.Reached.{Reached}
-use Rattle.dlk_elab.specs.Atoms.{UnknownName, NoPlace, NoMatch, HasGoalAt, NamesAxiom, IsUse, StandsThere, MatchesThere, AtomFault, asks_none, Asks, Instance, use_axiom, no_axiom, not_there, no_match}
+use Rattle.dlk_elab.specs.Atoms.{UnknownName, NoPlace, NoMatch, HasGoalAt, NamesAxiom, IsUse, StandsThere, MatchesThere, AtomFault, asks_none, Asks}
+use Rattle.dlk_elab.specs.Atoms.{Instance, use_axiom, no_axiom, not_there, no_match}
 use Rattle.dlk_elab.specs.Calls.{direction_of, given_at, GivenIsKnown}
 use Rattle.dlk_elab.specs.Ties.{IsTacFault}
 use Rattle.dlk_elab.specs.Uses.{IsAxiomAt, IsReached, IsNotThere, wanted, MayBeUsed, IsFound}
@@ -110,7 +111,8 @@ module _ (rows : List Provable) (target : Target) (atom : Atom) (u : UseCall) (g
           tac_fault_weaker (λ why. (why ≡ NoMatch) × (MayBeUsed named u → HasNoMatch (wanted trees named u) named.own.items t given))
           (AtomFault rows target.fact target.goal atom)
           (λ why k. subst (AtomFault rows target.fact target.goal atom) (sym k.0)
-          (asks_none at.s at.is_goal (no_match its_use e t is_use stands (λ may. no_match_of (wanted trees named u) _ named.own.items is.its_axiom.own_names t given
+          (asks_none at.s at.is_goal (no_match its_use e t is_use stands
+          (λ may. no_match_of (wanted trees named u) _ named.own.items is.its_axiom.own_names t given
           given key_is is.own refl (k.1 (subst (λ x. IsTrue (may_stand x (direction_of u.direction) u.place u.path.now)) (sym is.form) may)))))) fault h
 
       pub found : (new : List Tree) (extra : Extra) → Keeps trees new → IsSpine new reached.way → tree new (top reached.way) ≡ e →

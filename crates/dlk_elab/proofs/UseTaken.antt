@@ -31,7 +31,8 @@ use Rattle.dlk_sequent.specs.declared.sequent.Place.TheVariants.{Ante, Succ}
 use Rattle.dlk_sequent.specs.Extras.{extra_at}
 use Rattle.dlk_sequent.specs.Spines.{top, path_of}
 use Rattle.dlk_tacsyn.specs.Tactics.{Atom}
-use Rattle.dlk_uses.specs.Uses.{Direction, Forwards, Backwards, left_of, right_of, key, HasShape, Spot, may_stand, instance, Finishes, FinishesBehind, ProvesLast}
+use Rattle.dlk_uses.specs.Uses.{Direction, Forwards, Backwards, left_of, right_of, key, HasShape, Spot, may_stand, instance, Finishes, FinishesBehind}
+use Rattle.dlk_uses.specs.Uses.{ProvesLast}
 use Rattle.dlk_elab.specs.declared.calls.UseCall.{UseCall}
 use Rattle.dlk_elab.specs.declared.plan.Target.{Target}
 use Rattle.dlk_elab.specs.declared.uses.Found.{Found}

@@ -15,7 +15,8 @@ use Rattle.dlk_tacsyn.specs.declared.kind.Kind.TheVariants.{AnyPlace, AName, Quo
 use Rattle.dlk_tacsyn.specs.Rows.{AreOfKinds, HasNames}
 use Rattle.dlk_tacsyn.specs.Tactics.{Atom}
 use Rattle.dlk_uses.specs.Uses.{Direction, Use, Spot, key, may_stand, formula_at}
-use Rattle.dlk_elab.specs.Atoms.{UnknownName, NoPlace, NoMatch, HasNoLocator, Instance, Refused, use_axiom, no_axiom, not_there, no_match, word_of_direction, IsUse, StandsThere}
+use Rattle.dlk_elab.specs.Atoms.{UnknownName, NoPlace, NoMatch, HasNoLocator, Instance, Refused, use_axiom, no_axiom, not_there, no_match}
+use Rattle.dlk_elab.specs.Atoms.{word_of_direction, IsUse, StandsThere}
 use Rattle.dlk_elab.proofs.Given.{UseGiven, use_given}
 use Rattle.dlk_elab.proofs.MergesFit.{named_itself}
 use Rattle.dlk_elab.proofs.ProperUses.{Laws, made_proper, goes_on}

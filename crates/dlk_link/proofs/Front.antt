@@ -46,10 +46,11 @@ old_before numbers x same old le row a b = elim (at_either numbers x row row (ol
 
 -- the last number
 old_last : (numbers : List ℕ) (x same : ℕ) → HaveOldNumbers (numbers ++ x ∷ []) same → length numbers < same → x ≡ length numbers + 1
-old_last numbers x same old lt = elim (at_either numbers x (length numbers + 1) (length numbers + 1) (old (length numbers + 1) (omega arith) (omega (arith, lt)))) [
-  | inl e ↦ let within = (place_of numbers (length numbers + 1) (length numbers + 1) e).1 in absurd (omega (arith, within))
-  | inr e ↦ sym e.1
-]
+old_last numbers x same old lt = elim (at_either numbers x (length numbers + 1) (length numbers + 1)
+    (old (length numbers + 1) (omega arith) (omega (arith, lt)))) [
+      | inl e ↦ let within = (place_of numbers (length numbers + 1) (length numbers + 1) e).1 in absurd (omega (arith, within))
+      | inr e ↦ sym e.1
+    ]
 
 fewer : (numbers : List ℕ) (few same : ℕ) → HaveOldNumbers numbers same → few ≤ same → HaveOldNumbers numbers few
 fewer numbers few same old le row a b = old row a (omega (arith, b, le))
@@ -71,7 +72,8 @@ record Begins (read kept : List TreeStep) (numbers : List ℕ) : Type 0 where
   same : (many : ℕ) → HaveOldNumbers numbers many → (many ≤ length kept) × (take many kept ≡ take many read)
 
 -- where each row has its number the last step stays
-stays : (read : List TreeStep) (step : TreeStep) (numbers : List ℕ) → NamesBefore (read ++ step ∷ []) → HaveOldNumbers numbers (length read) → moved numbers step ≡ step
+stays : (read : List TreeStep) (step : TreeStep) (numbers : List ℕ) → NamesBefore (read ++ step ∷ []) → HaveOldNumbers numbers (length read) →
+    moved numbers step ≡ step
 stays read step numbers before old =
     same_moved (new_number numbers) (λ fact. fact) step (λ fact named. let b = before (length read + 1) step fact (at_last read step) named in
     let low = b.0 in let high = b.1 in its fact (old fact low (omega (arith, high)))) ∙ same_step step
@@ -216,7 +218,8 @@ front term kept rows same takes (numbers, trims, old) =
     }
 
 -- so the others are taken behind these rows, as the whole is taken from nothing
-pub others_taken : (kept : List TreeStep) (rows all : List Provable) (same : ℕ) → Front kept rows same → Takes [] kept all → Takes (take same rows) (drop same kept) all
+pub others_taken : (kept : List TreeStep) (rows all : List Provable) (same : ℕ) → Front kept rows same → Takes [] kept all →
+    Takes (take same rows) (drop same kept) all
 others_taken kept rows all same f takes =
     takes_on [] (take same rows) all (take same kept) (drop same kept) f.takes (subst (λ l. Takes [] l all) (sym (take-append-drop same kept)) takes)
 

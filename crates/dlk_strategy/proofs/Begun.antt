@@ -34,11 +34,13 @@ abbrev pub alone : Id → Sequent
 alone model = record { ante = []; succ = model ∷ [] }
 
 -- the kernel takes the step
-pub not_refused : {S : Type 0} (trees : S → List Tree) (k : State S) (s : Sequent) (model : Id) (why : Reason) → k.rows ≡ [] → s ≡ alone model → IsModel (tree (trees k.store) model) →
+pub not_refused : {S : Type 0} (trees : S → List Tree) (k : State S) (s : Sequent) (model : Id) (why : Reason) → k.rows ≡ [] → s ≡ alone model →
+    IsModel (tree (trees k.store) model) →
     Fault (facts trees k) (step_at (trees k.store) (step.Start s)) why → ⊥
 not_refused trees k s model why none is m fault =
     let by_rows = subst (λ (rows : List Provable). Against rows (step_at (trees k.store) (step.Start s)) why) (no_facts trees k none) fault.against in
-    none_against (tree (trees k.store) model) why m.formed m.small m.shallow (subst (λ (t : Sequent). Against [] (step_at (trees k.store) (step.Start t)) why) is by_rows)
+    none_against (tree (trees k.store) model) why m.formed m.small m.shallow
+    (subst (λ (t : Sequent). Against [] (step_at (trees k.store) (step.Start t)) why) is by_rows)
 
 -- and its row is that of the formula
 pub begun_rows : {S : Type 0} (trees : S → List Tree) (k : State S) (after : List Provable) (s : Sequent) (model : Id) → k.rows ≡ [] → s ≡ alone model →
@@ -47,12 +49,15 @@ begun_rows trees k after s model none is adds =
     let by_rows = subst (λ (rows : List Provable). Adds rows (step_at (trees k.store) (step.Start s)) after) (no_facts trees k none) adds in
     one_row (alone_right (tree (trees k.store) model)) after (subst (λ (t : Sequent). Adds [] (step_at (trees k.store) (step.Start t)) after) is by_rows)
 
-pub begun_steps : (old new : List Tree) (items : List Step) (s : Sequent) (model : Id) → Keeps old new → IsId old model → s ≡ alone model → items ≡ step.Start s ∷ [] →
+pub begun_steps : (old new : List Tree) (items : List Step) (s : Sequent) (model : Id) → Keeps old new → IsId old model → s ≡ alone model →
+    items ≡ step.Start s ∷ [] →
     map (step_at new) items ≡ Start (alone_right (tree old model)) ∷ []
 begun_steps old new items s model keeps known is made =
-    ap (map (step_at new)) made ∙ ap (λ (t : Sequent). step_at new (step.Start t) ∷ []) is ∙ ap (λ (t : Tree). Start (alone_right t) ∷ []) (keeps.same model known)
+    ap (map (step_at new)) made ∙ ap (λ (t : Sequent). step_at new (step.Start t) ∷ []) is
+    ∙ ap (λ (t : Tree). Start (alone_right t) ∷ []) (keeps.same model known)
 
-pub begun_known : (old new : List Tree) (items : List Step) (s : Sequent) (model : Id) → Keeps old new → IsId old model → s ≡ alone model → items ≡ step.Start s ∷ [] →
+pub begun_known : (old new : List Tree) (items : List Step) (s : Sequent) (model : Id) → Keeps old new → IsId old model → s ≡ alone model →
+    items ≡ step.Start s ∷ [] →
     All (HasKnownIds new) items
 begun_known old new items s model keeps known is made =
     let id : IsId new model = omega (arith, keeps.known, known) in

@@ -1,5 +1,6 @@
 -- The first of strategies that doesn't fail.
-use Rattle.std.proofs.Common.{◌≡◌, ℕ, ◌+◌, ◌≤◌, ◌<◌, List, [], ◌∷◌, ◌++◌, take, drop, length, get_or, Option, None, Result, Ok, Err, refl, ap, subst, ◌∙◌, arith}
+use Rattle.std.proofs.Common.{◌≡◌, ℕ, ◌+◌, ◌≤◌, ◌<◌, List, [], ◌∷◌, ◌++◌, take, drop, length, get_or, Option, None, Result, Ok, Err, refl, ap, subst}
+use Rattle.std.proofs.Common.{◌∙◌, arith}
 use Rattle.std.proofs.lemmas.List.{drop_all, length-take, get_or-take}
 use Rattle.dlk_tree.specs.Trees.{Tree}
 use Rattle.dlk_store.specs.Stores.{Keeps}
@@ -15,7 +16,8 @@ use Rattle.dlk_strategy.specs.Ties.{tactics_of, goals_of, IsReady, IsBack, Becom
 use Rattle.dlk_strategy.proofs.Trying.{back_known}
 use Rattle.dlk_strategy.proofs.Reached.{Leads, leads_as, leads_fails}
 
-pub item_of_take : {A : Type 0} (n : ℕ) (xs : List A) (i : ℕ) (x : A) → i < length (take n xs) → x ≡ get_or (take n xs) i x → (i < length xs) × (x ≡ get_or xs i x)
+pub item_of_take : {A : Type 0} (n : ℕ) (xs : List A) (i : ℕ) (x : A) → i < length (take n xs) → x ≡ get_or (take n xs) i x →
+    (i < length xs) × (x ≡ get_or xs i x)
 item_of_take n xs i x less is =
     let long = length-take n xs in
     let few : i < n = omega (arith, less, long) in
@@ -39,7 +41,8 @@ pub choices_last : (trees : List Tree) (earlier : List Tactic) (i : ℕ) (last :
 choices_last trees earlier i last goal end = ap (λ xs. Choices trees xs last goal) (drop_all i earlier end)
 
 module _ (first here after : Progress) (all fate rest : Fate) where
-  pub choice_err : (left : Fate) (e : RunFault) → Leads all left first here → left ≡ Else fate rest → BecomesTried fate here after (Err e) → Becomes all first after (Err e)
+  pub choice_err : (left : Fate) (e : RunFault) → Leads all left first here → left ≡ Else fate rest → BecomesTried fate here after (Err e) →
+      Becomes all first after (Err e)
   choice_err left (fault.Fails at why) leads is f = absurd f
   choice_err left (fault.Budget at) leads is f = leads_as all left (Else fate rest) first here is leads (Budget at) (spent f)
   choice_err left fault.Memory leads is f = tt
@@ -47,11 +50,13 @@ module _ (first here after : Progress) (all fate rest : Fate) where
   pub choice_done : (left : Fate) (new : ℕ) → Leads all left first here → left ≡ Else fate rest → fate here (Done after new) → all first (Done after new)
   choice_done left new leads is f = leads_as all left (Else fate rest) first here is leads (Done after new) (done f refl)
 
-  pub choice_fails : (left : Fate) (found : Option ℕ) → Leads all left first here → left ≡ Else fate rest → found ≡ None → BecomesTried fate here after (Ok found) →
+  pub choice_fails : (left : Fate) (found : Option ℕ) → Leads all left first here → left ≡ Else fate rest → found ≡ None →
+      BecomesTried fate here after (Ok found) →
       after ≡ record { steps = here.steps; rows = here.rows; used = after.used } → Leads all rest first after
   choice_fails left found leads is none f same =
       let failed = subst (λ (o : Option ℕ). BecomesTried fate here after (Ok o)) none f in
-      leads_fails all fate Ends (λ at why. rest) first here after failed.0 after.used failed.1 (leads_as all left (Else fate rest) first here is leads) failed.2 same
+      leads_fails all fate Ends (λ at why. rest) first here after failed.0 after.used failed.1 (leads_as all left (Else fate rest) first here is leads)
+      failed.2 same
 
   pub choice_last : (result : Result ℕ RunFault) → Leads all fate first here → Becomes fate here after result → Becomes all first after result
   choice_last (Ok left) leads f = leads (Done after left) f
@@ -59,10 +64,12 @@ module _ (first here after : Progress) (all fate rest : Fate) where
   choice_last (Err (fault.Budget at)) leads f = leads (Budget at) f
   choice_last (Err fault.Memory) leads f = tt
 
-pub back_goals : {S : Type 0} (trees : S → List Tree) (k : State S) (t : Trace) (k' : State S) (t' : Trace) → IsBack trees k t k' t' → goals_of trees k' ≡ goals_of trees k
+pub back_goals : {S : Type 0} (trees : S → List Tree) (k : State S) (t : Trace) (k' : State S) (t' : Trace) → IsBack trees k t k' t' →
+    goals_of trees k' ≡ goals_of trees k
 back_goals trees k t k' t' back = ap (λ (rows : List Provable). length (main_goals rows)) back.rows.provables
 
-pub back_ready : {S : Type 0} (trees : S → List Tree) (k : State S) (t : Trace) (k' : State S) (t' : Trace) (goal goals : ℕ) → Keeps (trees k.store) (trees k'.store) →
+pub back_ready : {S : Type 0} (trees : S → List Tree) (k : State S) (t : Trace) (k' : State S) (t' : Trace) (goal goals : ℕ) →
+    Keeps (trees k.store) (trees k'.store) →
     IsReady trees k t goal goals → IsBack trees k t k' t' → IsReady trees k' t' goal goals
 back_ready trees k t k' t' goal goals keeps ready back =
     let same = back_goals trees k t k' t' back in

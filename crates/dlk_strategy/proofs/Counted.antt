@@ -5,7 +5,9 @@ use Rattle.dlk_rules.specs.declared.arguments.Side.{Side}
 use Rattle.dlk_tacsyn.specs.Tactics.{Atom, Tactic, Choice, Sequence, Branch, Repeat, One, Tactics, no_parts, part, count}
 use Rattle.dlk_elab.specs.declared.fault.FailWhy.{FailWhy}
 use Rattle.dlk_elab.specs.declared.fault.FailWhy.TheVariants.{NoPlace}
-use Rattle.dlk_strategy.specs.Runs.{Progress, Outcome, Done, Fails, Budget, Fate, Run, Follow, done, fails, spent, Ends, FailsAt, Each, OnEach, Again, Once, steps, fault, side, placed, formulas, Tries, RunAtomOn, RunAtom, Branched, as_many, another_count, Runs, Alternatives, InTurn, OnOwn}
+use Rattle.dlk_strategy.specs.Runs.{Progress, Outcome, Done, Fails, Budget, Fate, Run, Follow, done, fails, spent, Ends, FailsAt, Each, OnEach, Again}
+use Rattle.dlk_strategy.specs.Runs.{Once, steps, fault, side, placed, formulas, Tries, RunAtomOn, RunAtom, Branched, as_many, another_count, Runs}
+use Rattle.dlk_strategy.specs.Runs.{Alternatives, InTurn, OnOwn}
 use Rattle.dlk_strategy.specs.Runs.{OneByOne, RunDerive, plans, no_plan, RunNamedBy, RunNamed, is_derive}
 use Rattle.dlk_strategy.specs.Runs.{spent as once_spent}
 
@@ -29,7 +31,8 @@ counted_failure n at why now o e =
     let stays : Counts n now (Fails at why now.used) = omega arith in
     subst (λ (x : Outcome). Counts n now x) (sym e) stays
 
-counts_on : (n first : ℕ) (rest : ℕ → ℕ) (left : ℕ) (now made : Progress) (o : Outcome) → Counts first now (Done made left) → Counts (rest left) made o → rest first ≡ n → Counts n now o
+counts_on : (n first : ℕ) (rest : ℕ → ℕ) (left : ℕ) (now made : Progress) (o : Outcome) → Counts first now (Done made left) → Counts (rest left) made o →
+    rest first ≡ n → Counts n now o
 counts_on n first rest left now made (Done after m) a b e = (
   omega (arith, a.0, b.0),
   λ same.
@@ -55,7 +58,8 @@ counts_else n used now (Fails at why more) a b = omega (arith, a, b)
 counts_else n used now (Budget at) a b = tt
 
 counted_follow : (n first : ℕ) (rest : ℕ → ℕ) (fate : Fate) (then_on : ℕ → Fate) (else_on : ℕ → FailWhy → Fate) → IsCounted first fate →
-    ((left : ℕ) → IsCounted (rest left) (then_on left)) → ((at : ℕ) (why : FailWhy) → IsCounted n (else_on at why)) → rest first ≡ n → IsCounted n (Follow fate then_on else_on)
+    ((left : ℕ) → IsCounted (rest left) (then_on left)) → ((at : ℕ) (why : FailWhy) → IsCounted n (else_on at why)) → rest first ≡ n →
+    IsCounted n (Follow fate then_on else_on)
 counted_follow n first rest fate then_on else_on one others failing e now _ (done {left} {made} {outcome = o} p q) =
     counts_on n first rest left now made o (one now (Done made left) p) (others left made o q) e
 counted_follow n first rest fate then_on else_on one others failing e now _ (fails {at} {why} {used} {outcome = o} p q) =
@@ -93,7 +97,8 @@ counted_once atom goal now _ (once_spent full) = tt
 counted_tries : (atom : Atom) (goal more place : ℕ) (why : FailWhy) → IsCounted 1 (Tries atom goal more place why)
 counted_tries atom goal zero place why = counted_failure 1 atom.at why
 counted_tries atom goal (suc more) place why =
-    counted_follow 1 1 (λ n. n) (Once (placed place atom) goal) Ends (λ at last. Tries atom goal more (place + 1) last) (counted_once (placed place atom) goal) counted_end
+    counted_follow 1 1 (λ n. n) (Once (placed place atom) goal) Ends (λ at last. Tries atom goal more (place + 1) last) (counted_once (placed place atom) goal)
+    counted_end
     (λ at last. counted_tries atom goal more (place + 1) last) refl
 
 counted_atom_on : (atom : Atom) (on : Option Side) (goal : ℕ) → IsCounted 1 (RunAtomOn atom on goal)
@@ -135,7 +140,8 @@ mutual
   counted_turn : (parts : Tactics) (goals goal : ℕ) → IsCounted goals (InTurn parts goals goal)
   counted_turn no_parts goals goal = counted_end goals
   counted_turn (part t rest) goals goal =
-      counted_follow goals goals (λ n. n) (Runs t goals goal) (λ left. InTurn rest left goal) FailsAt (counted_fate t goals goal) (λ left. counted_turn rest left goal)
+      counted_follow goals goals (λ n. n) (Runs t goals goal) (λ left. InTurn rest left goal) FailsAt (counted_fate t goals goal)
+      (λ left. counted_turn rest left goal)
       (counted_failure goals) refl
 
   counted_own : (parts : Tactics) (goal left : ℕ) → IsCounted (left + count parts) (OnOwn parts goal left)

@@ -20,7 +20,8 @@ from_here : (args : List Arg) (i : ℕ) (a : Arg) (found : Option Side) → So a
     ((trees : List Tree) → found ≡ side_of (argument_at trees a)) →
     (trees : List Tree) → side (map (argument_at trees) args) ≡ or_other found (side (map (argument_at trees) (drop (i + 1) args)))
 from_here args i a found so lt is its trees =
-    so trees ∙ ap (λ xs. side (map (argument_at trees) xs)) (item_here args i a lt is) ∙ ap (λ o. or_other o (side (map (argument_at trees) (drop (i + 1) args)))) (sym (its trees))
+    so trees ∙ ap (λ xs. side (map (argument_at trees) xs)) (item_here args i a lt is)
+    ∙ ap (λ o. or_other o (side (map (argument_at trees) (drop (i + 1) args)))) (sym (its trees))
 
 first_of_some : (found other : Option Side) → is_some found ≡ true → or_other found other ≡ found
 first_of_some (Some s) other h = refl
@@ -44,7 +45,8 @@ pub side_nowhere : (args : List Arg) (i : ℕ) → So args i → length args ≤
 side_nowhere args i so end trees = sym (so trees ∙ ap (λ xs. side (map (argument_at trees) xs)) (drop_all i args end))
 
 pub placed_more : (trees : List Tree) (place i : ℕ) (items args new : List Arg) (a x : Arg) → i < length items → a ≡ get_or items i a → new ≡ args ++ x ∷ [] →
-    map (argument_at trees) args ≡ map (put_place place) (map (argument_at trees) (take i items)) → argument_at trees x ≡ put_place place (argument_at trees a) →
+    map (argument_at trees) args ≡ map (put_place place) (map (argument_at trees) (take i items)) →
+    argument_at trees x ≡ put_place place (argument_at trees a) →
     map (argument_at trees) new ≡ map (put_place place) (map (argument_at trees) (take (i + 1) items))
 placed_more trees place i items args new a x lt is pushed so one =
     let f = argument_at trees in

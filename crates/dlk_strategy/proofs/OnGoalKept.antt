@@ -52,7 +52,8 @@ module _ (atom_taken : (rows : List Provable) (fact goal : ℕ) (atom : Atom) (s
   on_symbols t before rows goal used made left names taken r =
       let named = expanded_names t r.expansion names r.expanded in
       let first = subst (λ (xs : List Step). Takes [] xs rows) (sym (append-nil before)) taken in
-      (keeps_fate (IsSymbolic before) HasNames (λ now count h. h) (λ n atom h. all_named n atom.arguments h) plan_names (symbolic_on before) r.expansion 1 goal named
+      (keeps_fate (IsSymbolic before) HasNames (λ now count h. h) (λ n atom h. all_named n atom.arguments h) plan_names (symbolic_on before) r.expansion 1
+      goal named
       (fresh rows used) (Done made left) (first, All-nil ReplacesSymbols) r.run).1
 
 -- there are rows, of which the last shows this sequent

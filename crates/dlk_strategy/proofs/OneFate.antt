@@ -14,7 +14,9 @@ use Rattle.dlk_derive.specs.Derives.{DeriveWhy, Plans, NoPlan, use_of}
 use Rattle.dlk_tacsyn.specs.Tactics.{AtPlace, Atom, Tactic, Choice, Sequence, Branch, Repeat, One, Tactics, no_parts, part, count}
 use Rattle.dlk_elab.specs.declared.fault.FailWhy.{FailWhy}
 use Rattle.dlk_elab.specs.declared.fault.FailWhy.TheVariants.{NoPlace}
-use Rattle.dlk_strategy.specs.Runs.{Progress, Outcome, Done, Fails, Budget, Fate, Run, Follow, done, fails, spent, Ends, FailsAt, Then, Each, Again, Once, main_goals, side, placed, formulas, Tries, TriesAll, RunAtomOn, RunAtom, Branched, as_many, another_count, Runs, Alternatives, InTurn, OnOwn, RunsPlain}
+use Rattle.dlk_strategy.specs.Runs.{Progress, Outcome, Done, Fails, Budget, Fate, Run, Follow, done, fails, spent, Ends, FailsAt, Then, Each, Again}
+use Rattle.dlk_strategy.specs.Runs.{Once, main_goals, side, placed, formulas, Tries, TriesAll, RunAtomOn, RunAtom, Branched, as_many, another_count}
+use Rattle.dlk_strategy.specs.Runs.{Runs, Alternatives, InTurn, OnOwn, RunsPlain}
 use Rattle.dlk_strategy.specs.Runs.{OnEach, OneByOne, RunDerive, plans, no_plan, RunNamedBy, RunNamed, is_derive}
 use Rattle.dlk_strategy.specs.Runs.{spent as derive_spent}
 use Rattle.dlk_strategy.specs.Whys.{why_of}
@@ -65,11 +67,13 @@ one_follow fate then_on else_on one one_then one_else now _ _ (done {left} {made
     absurd (done_spent made left at (one now (Done made left) (Budget at) p p'))
 one_follow fate then_on else_on one one_then one_else now _ _ (fails {at} {why} {used} {outcome = a} p q) (done {left} {made} {outcome = b} p' q') =
     absurd (done_fails made left at used why (one now (Done made left) (Fails at why used) p' p))
-one_follow fate then_on else_on one one_then one_else now _ _ (fails {at} {why} {used} {outcome = a} p q) (fails {at = at'} {why = why'} {used = used'} {outcome = b} p' q') =
+one_follow fate then_on else_on one one_then one_else now _ _ (fails {at} {why} {used} {outcome = a} p q)
+    (fails {at = at'} {why = why'} {used = used'} {outcome = b} p' q') =
     let e = one now (Fails at why used) (Fails at' why' used') p p' in
     let by_at = subst (λ (n : ℕ). else_on n why (record now { used = used }) a) (same_at at at' used used' why why' e) q in
     let by_why = subst (λ (w : FailWhy). else_on at' w (record now { used = used }) a) (same_why at at' used used' why why' e) by_at in
-    one_else at' why' (record now { used = used' }) a b (subst (λ (n : ℕ). else_on at' why' (record now { used = n }) a) (same_used at at' used used' why why' e) by_why) q'
+    one_else at' why' (record now { used = used' }) a b
+    (subst (λ (n : ℕ). else_on at' why' (record now { used = n }) a) (same_used at at' used used' why why' e) by_why) q'
 one_follow fate then_on else_on one one_then one_else now _ _ (fails {at} {why} {used} {outcome = a} p q) (spent {at = at'} p') =
     absurd (fails_spent at used at' why (one now (Fails at why used) (Budget at') p p'))
 one_follow fate then_on else_on one one_then one_else now _ _ (spent {at} p) (done {left} {made} {outcome = b} p' q') =
@@ -83,7 +87,8 @@ one_then fate next one others = one_follow fate next FailsAt one others one_fail
 
 one_each : (run : Run) → ((goal : ℕ) → IsOne (run goal)) → (more goal left : ℕ) → IsOne (Each run more goal left)
 one_each run one zero goal left = one_end left
-one_each run one (suc more) goal left = one_then (run (goal + left)) (λ new. Each run more goal (left + new)) (one (goal + left)) (λ new. one_each run one more goal (left + new))
+one_each run one (suc more) goal left = one_then (run (goal + left)) (λ new. Each run more goal (left + new)) (one (goal + left))
+    (λ new. one_each run one more goal (left + new))
 
 one_again : (run : Run) → ((goal : ℕ) → IsOne (run goal)) → (times goal : ℕ) → IsOne (Again run times goal)
 one_again run one zero goal = one_end 1
@@ -129,7 +134,8 @@ module _ (one_once : (atom : Atom) (goal : ℕ) → IsOne (Once atom goal))
   one_side : (atom : Atom) (on : Side) (goal : ℕ) → IsOne (TriesAll atom on goal)
   one_side atom on goal now a b p q =
       let same : p.0 ≡ q.0 = at_one (main_goals now.rows) goal p.0 q.0 p.1 q.1 in
-      one_try atom goal (length (formulas on q.0)) 1 NoPlace now a b (subst (λ (s : Sequent). Tries atom goal (length (formulas on s)) 1 NoPlace now a) same p.2) q.2
+      one_try atom goal (length (formulas on q.0)) 1 NoPlace now a b
+      (subst (λ (s : Sequent). Tries atom goal (length (formulas on s)) 1 NoPlace now a) same p.2) q.2
 
   one_atom_on : (atom : Atom) (on : Option Side) (goal : ℕ) → IsOne (RunAtomOn atom on goal)
   one_atom_on atom None goal = one_once atom goal

@@ -8,9 +8,12 @@ use Rattle.dlk_elab.specs.Atoms.{AtomSteps, AtomFault}
 use Rattle.dlk_strategy.specs.Runs.{Done, Fails, Once, steps, fault, spent, main_goals}
 use Rattle.dlk_strategy.proofs.OneFate.{IsOne}
 
-module _ (one_steps : (rows : List Provable) (fact goal : ℕ) (atom : Atom) (s t : List Step) (a b : List Provable) → AtomSteps rows fact goal atom s a → AtomSteps rows fact goal atom t b → (s ≡ t) × (a ≡ b))
-    (one_fault : (rows : List Provable) (fact goal : ℕ) (atom : Atom) (why other : FailWhy) → AtomFault rows fact goal atom why → AtomFault rows fact goal atom other → why ≡ other)
-    (not_both : (rows : List Provable) (fact goal : ℕ) (atom : Atom) (s : List Step) (a : List Provable) (why : FailWhy) → AtomSteps rows fact goal atom s a → AtomFault rows fact goal atom why → ⊥) where
+module _ (one_steps : (rows : List Provable) (fact goal : ℕ) (atom : Atom) (s t : List Step) (a b : List Provable) → AtomSteps rows fact goal atom s a →
+    AtomSteps rows fact goal atom t b → (s ≡ t) × (a ≡ b))
+    (one_fault : (rows : List Provable) (fact goal : ℕ) (atom : Atom) (why other : FailWhy) → AtomFault rows fact goal atom why →
+    AtomFault rows fact goal atom other → why ≡ other)
+    (not_both : (rows : List Provable) (fact goal : ℕ) (atom : Atom) (s : List Step) (a : List Provable) (why : FailWhy) → AtomSteps rows fact goal atom s a →
+    AtomFault rows fact goal atom why → ⊥) where
   pub one_once : (atom : Atom) (goal : ℕ) → IsOne (Once atom goal)
   one_once atom goal now _ _ (steps {steps = s} {rows = a} {left} room made n) (steps {steps = t} {rows = b} {left = left'} room' made' n') =
       let same = one_steps now.rows (length now.rows) goal atom s t a b made made' in

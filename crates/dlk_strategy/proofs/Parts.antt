@@ -15,24 +15,28 @@ use Rattle.dlk_strategy.specs.Ties.{IsRunnable, tactics_of, on_one, Becomes}
 
 module _ (trees : List Tree) (parts : List Tactic) where
   pub turn_next : (t : Tactic) (i goals goal : ℕ) → drop i parts ≡ t ∷ drop (i + 1) parts →
-      InTurn (tactics_of trees (drop i parts)) goals goal ≡ Then (Runs (tactic_at trees t) goals goal) (λ left. InTurn (tactics_of trees (drop (i + 1) parts)) left goal)
+      InTurn (tactics_of trees (drop i parts)) goals goal ≡ Then (Runs (tactic_at trees t) goals goal)
+      (λ left. InTurn (tactics_of trees (drop (i + 1) parts)) left goal)
   turn_next t i goals goal e = ap (λ xs. InTurn (tactics_of trees xs) goals goal) e
 
   pub turn_none : (i goals goal : ℕ) → length parts ≤ i → InTurn (tactics_of trees (drop i parts)) goals goal ≡ Ends goals
   turn_none i goals goal end = ap (λ xs. InTurn (tactics_of trees xs) goals goal) (drop_all i parts end)
 
   pub own_next : (t : Tactic) (i goal left : ℕ) → drop i parts ≡ t ∷ drop (i + 1) parts →
-      OnOwn (tactics_of trees (drop i parts)) goal left ≡ Then (Runs (tactic_at trees t) 1 (goal + left)) (λ new. OnOwn (tactics_of trees (drop (i + 1) parts)) goal (left + new))
+      OnOwn (tactics_of trees (drop i parts)) goal left ≡ Then (Runs (tactic_at trees t) 1 (goal + left))
+      (λ new. OnOwn (tactics_of trees (drop (i + 1) parts)) goal (left + new))
   own_next t i goal left e = ap (λ xs. OnOwn (tactics_of trees xs) goal left) e
 
   pub own_none : (i goal left : ℕ) → length parts ≤ i → OnOwn (tactics_of trees (drop i parts)) goal left ≡ Ends left
   own_none i goal left end = ap (λ xs. OnOwn (tactics_of trees xs) goal left) (drop_all i parts end)
 
 -- a part can be run
-pub part_at : (trees : List Tree) (parts : List Tactic) (i : ℕ) (t : Tactic) → All (IsRunnable trees) parts → i < length parts → t ≡ get_or parts i t → IsRunnable trees t
+pub part_at : (trees : List Tree) (parts : List Tactic) (i : ℕ) (t : Tactic) → All (IsRunnable trees) parts → i < length parts → t ≡ get_or parts i t →
+    IsRunnable trees t
 part_at trees parts i t all less is = subst (IsRunnable trees) (sym is) (all i t less)
 
-pub branched_err : (at parts goals : ℕ) (each : Fate) (before after : Progress) (e : RunFault) → goals ≡ parts → Becomes each before after (Err e) → Becomes (Branched at parts goals each) before after (Err e)
+pub branched_err : (at parts goals : ℕ) (each : Fate) (before after : Progress) (e : RunFault) → goals ≡ parts → Becomes each before after (Err e) →
+    Becomes (Branched at parts goals each) before after (Err e)
 branched_err at parts goals each before after (fault.Fails byte why) is p = as_many is p
 branched_err at parts goals each before after (fault.Budget byte) is p = as_many is p
 branched_err at parts goals each before after fault.Memory is p = tt

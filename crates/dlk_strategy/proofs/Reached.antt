@@ -23,16 +23,19 @@ leads_same all first o p = p
 pub leads_as : (all rest rest' : Fate) (first here : Progress) → rest ≡ rest' → Leads all rest first here → Leads all rest' first here
 leads_as all rest rest' first here e leads = subst (λ (r : Fate). Leads all r first here) e leads
 
-pub leads_done : (all fate : Fate) (then_on : ℕ → Fate) (else_on : ℕ → FailWhy → Fate) (first here made : Progress) (left : ℕ) → Leads all (Follow fate then_on else_on) first here →
+pub leads_done : (all fate : Fate) (then_on : ℕ → Fate) (else_on : ℕ → FailWhy → Fate) (first here made : Progress) (left : ℕ) →
+    Leads all (Follow fate then_on else_on) first here →
     fate here (Done made left) → Leads all (then_on left) first made
 leads_done all fate then_on else_on first here made left leads f o p = leads o (done f p)
 
 pub leads_fails : (all fate : Fate) (then_on : ℕ → Fate) (else_on : ℕ → FailWhy → Fate) (first here next : Progress) (at used : ℕ) (why : FailWhy) →
-    Leads all (Follow fate then_on else_on) first here → fate here (Fails at why used) → next ≡ record { steps = here.steps; rows = here.rows; used = used } → Leads all (else_on at why) first next
+    Leads all (Follow fate then_on else_on) first here → fate here (Fails at why used) → next ≡ record { steps = here.steps; rows = here.rows; used = used } →
+    Leads all (else_on at why) first next
 leads_fails all fate then_on else_on first here next at used why leads f same o p =
     leads o (fails f (subst (λ (n : Progress). else_on at why n o) same p))
 
-pub leads_over : (all fate : Fate) (then_on : ℕ → Fate) (else_on : ℕ → FailWhy → Fate) (first here : Progress) (at : ℕ) → Leads all (Follow fate then_on else_on) first here →
+pub leads_over : (all fate : Fate) (then_on : ℕ → Fate) (else_on : ℕ → FailWhy → Fate) (first here : Progress) (at : ℕ) →
+    Leads all (Follow fate then_on else_on) first here →
     fate here (Budget at) → all first (Budget at)
 leads_over all fate then_on else_on first here at leads f = leads (Budget at) (spent f)
 
@@ -67,7 +70,8 @@ module _ {S : Type 0} (trees : S → List Tree) where
     within = ready.used;
   }
 
-  pub extends_on : (k : State S) (t : Trace) (k' : State S) (t' : Trace) (k'' : State S) (t'' : Trace) → Extends trees k t k' t' → Extends trees k' t' k'' t'' → Extends trees k t k'' t''
+  pub extends_on : (k : State S) (t : Trace) (k' : State S) (t' : Trace) (k'' : State S) (t'' : Trace) → Extends trees k t k' t' →
+      Extends trees k' t' k'' t'' → Extends trees k t k'' t''
   extends_on k t k' t' k'' t'' a b = record {
     rows = rows_longer trees k k' k'' a.rows b.rows;
     steps = prefix_on t.steps.items t'.steps.items t''.steps.items a.steps b.steps;
@@ -88,11 +92,14 @@ module _ {S : Type 0} (trees : S → List Tree) where
   rows_back old mid k rows extends is_rows e_rows e_store =
       let store : facts trees k ≡ map (provable_at (trees mid.store)) k.rows = ap (λ s. map (provable_at (trees s)) k.rows) e_store in
       let kept : map (provable_at (trees mid.store)) k.rows ≡ take (length old.rows) (facts trees mid) =
-      ap (map (provable_at (trees mid.store))) (e_rows ∙ ap (λ n. take n mid.rows) is_rows) ∙ sym (take-map (provable_at (trees mid.store)) (length old.rows) mid.rows) in
+      ap (map (provable_at (trees mid.store))) (e_rows ∙ ap (λ n. take n mid.rows) is_rows)
+      ∙ sym (take-map (provable_at (trees mid.store)) (length old.rows) mid.rows) in
       record { ids = e_rows ∙ ap (λ n. take n mid.rows) is_rows ∙ extends.ids; provables = store ∙ kept ∙ extends.provables }
 
-  pub taken_back : (old : State S) (before : Trace) (mid : State S) (t : Trace) (k : State S) (after : Trace) (rows steps : ℕ) → Extends trees old before mid t →
-      rows ≡ length old.rows → steps ≡ length before.steps.items → k.rows ≡ take rows mid.rows → k.store ≡ mid.store → after.steps.items ≡ take steps t.steps.items → after.used ≡ t.used →
+  pub taken_back : (old : State S) (before : Trace) (mid : State S) (t : Trace) (k : State S) (after : Trace) (rows steps : ℕ) →
+      Extends trees old before mid t →
+      rows ≡ length old.rows → steps ≡ length before.steps.items → k.rows ≡ take rows mid.rows → k.store ≡ mid.store →
+      after.steps.items ≡ take steps t.steps.items → after.used ≡ t.used →
       IsBack trees old before k after
   taken_back old before mid t k after rows steps extends is_rows is_steps e_rows e_store e_steps e_used =
       record {
@@ -110,10 +117,12 @@ module _ {S : Type 0} (trees : S → List Tree) where
     pub leads : Leads all rest (now trees old before) (now trees k t)
 
   pub reached_first : (k : State S) (t : Trace) (goal goals n : ℕ) (all : Fate) → IsReady trees k t goal goals → Reached k t k t n n all all
-  reached_first k t goal goals n all ready = record { extends = extends_same k t goal goals ready; counted = refl; few = ready.few; leads = leads_same all (now trees k t) }
+  reached_first k t goal goals n all ready =
+      record { extends = extends_same k t goal goals ready; counted = refl; few = ready.few; leads = leads_same all (now trees k t) }
 
   -- a part on so many goals is done
-  pub reached_on : (old : State S) (before : Trace) (k : State S) (t : Trace) (k' : State S) (t' : Trace) (goals left goals' left' some new : ℕ) (all rest fate : Fate) (next : ℕ → Fate) →
+  pub reached_on : (old : State S) (before : Trace) (k : State S) (t : Trace) (k' : State S) (t' : Trace) (goals left goals' left' some new : ℕ)
+      (all rest fate : Fate) (next : ℕ → Fate) →
       Reached old before k t goals left all rest → rest ≡ Then fate next → fate (now trees k t) (Done (now trees k' t') new) → Extends trees k t k' t' →
       HasLeft (goals_of trees k) some (goals_of trees k') new → goals_of trees k' ≤ most_goals → goals' + left + new ≡ goals + some + left' →
       Reached old before k' t' goals' left' all (next new)
@@ -121,23 +130,28 @@ module _ {S : Type 0} (trees : S → List Tree) where
     extends = extends_on old before k t k' t' r.extends extends;
     counted = omega (arith, r.counted, has, e);
     few = few;
-    leads = leads_done all fate next FailsAt (now trees old before) (now trees k t) (now trees k' t') new (leads_as all rest (Then fate next) (now trees old before) (now trees k t) is r.leads) made;
+    leads = leads_done all fate next FailsAt (now trees old before) (now trees k t) (now trees k' t') new
+        (leads_as all rest (Then fate next) (now trees old before) (now trees k t) is r.leads) made;
   }
 
   -- a part isn't
-  pub reached_err : (old : State S) (before : Trace) (k : State S) (t : Trace) (k' : State S) (t' : Trace) (goals left : ℕ) (all rest fate : Fate) (next : ℕ → Fate) (e : RunFault) →
+  pub reached_err : (old : State S) (before : Trace) (k : State S) (t : Trace) (k' : State S) (t' : Trace) (goals left : ℕ) (all rest fate : Fate)
+      (next : ℕ → Fate) (e : RunFault) →
       Reached old before k t goals left all rest → rest ≡ Then fate next → Becomes fate (now trees k t) (now trees k' t') (Err e) →
       Becomes all (now trees old before) (now trees k' t') (Err e)
   reached_err old before k t k' t' goals left all rest fate next e r is becomes =
-      leads_err all fate next (now trees old before) (now trees k t) (now trees k' t') e (leads_as all rest (Then fate next) (now trees old before) (now trees k t) is r.leads) becomes
+      leads_err all fate next (now trees old before) (now trees k t) (now trees k' t') e
+      (leads_as all rest (Then fate next) (now trees old before) (now trees k t) is r.leads) becomes
 
-  pub reached_end : (old : State S) (before : Trace) (k : State S) (t : Trace) (goals left : ℕ) (all rest : Fate) → Reached old before k t goals left all rest → rest ≡ Ends left →
+  pub reached_end : (old : State S) (before : Trace) (k : State S) (t : Trace) (goals left : ℕ) (all rest : Fate) →
+      Reached old before k t goals left all rest → rest ≡ Ends left →
       all (now trees old before) (Done (now trees k t) left)
   reached_end old before k t goals left all rest r is =
       leads_end all (now trees old before) (now trees k t) left (leads_as all rest (Ends left) (now trees old before) (now trees k t) is r.leads)
 
   -- and the next part is ready
-  pub reached_ready : (old : State S) (before : Trace) (k : State S) (t : Trace) (goals left : ℕ) (all rest : Fate) (goal some : ℕ) → Reached old before k t goals left all rest → 1 ≤ goal →
+  pub reached_ready : (old : State S) (before : Trace) (k : State S) (t : Trace) (goals left : ℕ) (all rest : Fate) (goal some : ℕ) →
+      Reached old before k t goals left all rest → 1 ≤ goal →
       goal + some + goals ≤ goals_of trees old + left + 1 → IsReady trees k t goal some
   reached_ready old before k t goals left all rest goal some r first room = record {
     known = r.extends.known;
@@ -148,7 +162,8 @@ module _ {S : Type 0} (trees : S → List Tree) where
   }
 
 -- on each of so many goals, one more
-pub each_next : (run : Run) (goals goal i left : ℕ) → i < goals → Each run (goals - i) goal left ≡ Then (run (goal + left)) (λ new. Each run (goals - (i + 1)) goal (left + new))
+pub each_next : (run : Run) (goals goal i left : ℕ) → i < goals →
+    Each run (goals - i) goal left ≡ Then (run (goal + left)) (λ new. Each run (goals - (i + 1)) goal (left + new))
 each_next run goals goal i left less =
     let e : goals - i ≡ suc (goals - (i + 1)) = omega (arith, less) in
     ap (λ n. Each run n goal left) e

@@ -1,5 +1,6 @@
 -- Goals that wait for their turns.
-use Rattle.std.proofs.Common.{◌≡◌, ◌≢◌, ℕ, zero, suc, ◌+◌, ◌-◌, ◌≤◌, take, Option, None, Ok, Err, List, [], ◌∷◌, ◌++◌, length, reverse, replicate, refl, sym, ap, subst, ◌∙◌, arith, length-append}
+use Rattle.std.proofs.Common.{◌≡◌, ◌≢◌, ℕ, zero, suc, ◌+◌, ◌-◌, ◌≤◌, take, Option, None, Ok, Err, List, [], ◌∷◌, ◌++◌, length, reverse, replicate}
+use Rattle.std.proofs.Common.{refl, sym, ap, subst, ◌∙◌, arith, length-append}
 use Rattle.std.proofs.lemmas.List.{reverse-append, length-replicate}
 use Rattle.std.proofs.lemmas.List.{length-reverse}
 use Rattle.dlk_tree.specs.Trees.{Tree}
@@ -13,7 +14,8 @@ use Rattle.dlk_elab.specs.declared.fault.FailWhy.{FailWhy}
 use Rattle.dlk_strategy.specs.declared.fault.RunFault.{RunFault}
 use Rattle.dlk_strategy.specs.declared.fault.RunFault.TheVariants as fault
 use Rattle.dlk_strategy.specs.declared.trace.Trace.{Trace}
-use Rattle.dlk_strategy.specs.Runs.{Progress, Outcome, Done, Fails, Budget, Fate, Run, Follow, done, fails, spent, Ends, FailsAt, Then, Each, Again, Runs, main_goals}
+use Rattle.dlk_strategy.specs.Runs.{Progress, Outcome, Done, Fails, Budget, Fate, Run, Follow, done, fails, spent, Ends, FailsAt, Then, Each, Again}
+use Rattle.dlk_strategy.specs.Runs.{Runs, main_goals}
 use Rattle.dlk_strategy.specs.Ties.{now, goals_of, IsReady, Extends, IsBack, HasLeft, Becomes, BecomesTried, IsBackOnNone}
 use Rattle.dlk_strategy.proofs.Trying.{back_now, back_extends}
 use Rattle.dlk_strategy.proofs.Counted.{still}
@@ -37,7 +39,8 @@ waits_first run times goal first o p =
     let e : goal + 0 ≡ goal = omega arith in
     then_ends (Again run times goal) first o (subst (λ n. Then (Again run times n) (λ new. Ends (0 + new)) first o) e p)
 
-then_in : (fate : Fate) (mid next : ℕ → Fate) (else_on : ℕ → FailWhy → Fate) (now made : Progress) (new : ℕ) (o : Outcome) → fate now (Done made new) → Then (mid new) next made o →
+then_in : (fate : Fate) (mid next : ℕ → Fate) (else_on : ℕ → FailWhy → Fate) (now made : Progress) (new : ℕ) (o : Outcome) → fate now (Done made new) →
+    Then (mid new) next made o →
     Then (Follow fate mid else_on) next now o
 then_in fate mid next else_on now made new _ f (done p q) = done (done f p) q
 then_in fate mid next else_on now made new _ f (fails p q) = fails (done f p) q
@@ -61,7 +64,8 @@ each_waits run n rest goal left (suc k) m now _ (spent {at} p) =
     spent (spent (subst (λ g. Again run n g now (Budget at)) e p))
 
 -- a turn that is done: each goal that it leaves waits with a turn less
-pub waits_on : (run : Run) (n : ℕ) (rest : List ℕ) (goal left new : ℕ) (all : Fate) (first here made : Progress) → Leads all (Waits run (suc n ∷ rest) goal left) first here →
+pub waits_on : (run : Run) (n : ℕ) (rest : List ℕ) (goal left new : ℕ) (all : Fate) (first here made : Progress) →
+    Leads all (Waits run (suc n ∷ rest) goal left) first here →
     run (goal + left) here (Done made new) → Leads all (Waits run (replicate new n ++ rest) goal left) first made
 waits_on run n rest goal left new all first here made leads r o p =
     let e : left ≡ left + 0 = omega arith in
@@ -93,19 +97,24 @@ module _ {S : Type 0} (trees : S → List Tree) (old : State S) (before : Trace)
   Waiting k t waiting all run goal left = Reached trees old before k t 1 (left + length waiting) all (Waits run (reverse waiting) goal left)
 
   -- the last turn of a goal
-  pub turn_over : (k : State S) (t : Trace) (k' : State S) (t' : Trace) (waiting rest : List ℕ) (turns goal left : ℕ) (all : Fate) (run : Run) → Waiting k t waiting all run goal left →
-      waiting ≡ rest ++ turns ∷ [] → Again run turns (goal + left) (now trees k t) (Done (now trees k' t') 1) → Extends trees k t k' t' → goals_of trees k' ≡ goals_of trees k →
+  pub turn_over : (k : State S) (t : Trace) (k' : State S) (t' : Trace) (waiting rest : List ℕ) (turns goal left : ℕ) (all : Fate) (run : Run) →
+      Waiting k t waiting all run goal left →
+      waiting ≡ rest ++ turns ∷ [] → Again run turns (goal + left) (now trees k t) (Done (now trees k' t') 1) → Extends trees k t k' t' →
+      goals_of trees k' ≡ goals_of trees k →
       Waiting k' t' rest all run goal (left + 1)
   turn_over k t k' t' waiting rest turns goal left all run r is made extends same =
       let longer = one_longer waiting rest turns is in
       let next : ℕ → Fate = λ new. Waits run (reverse rest) goal (left + new) in
-      let shape : Waits run (reverse waiting) goal left ≡ Then (Again run turns (goal + left)) next = ap (λ xs. Waits run xs goal left) (turned waiting rest turns is) in
-      reached_on trees old before k t k' t' 1 (left + length waiting) 1 (left + 1 + length rest) 1 1 all (Waits run (reverse waiting) goal left) (Again run turns (goal + left)) next
+      let shape : Waits run (reverse waiting) goal left ≡ Then (Again run turns (goal + left)) next =
+      ap (λ xs. Waits run xs goal left) (turned waiting rest turns is) in
+      reached_on trees old before k t k' t' 1 (left + length waiting) 1 (left + 1 + length rest) 1 1 all (Waits run (reverse waiting) goal left)
+      (Again run turns (goal + left)) next
       r shape made extends (omega (arith, same)) (omega (arith, r.few, same)) (omega (arith, longer))
 
   -- a turn after which goals wait with a turn less
   pub turn_on : (k : State S) (t : Trace) (k' : State S) (t' : Trace) (waiting rest new_waiting : List ℕ) (turns n goal left new : ℕ) (all : Fate) (run : Run) →
-      Waiting k t waiting all run goal left → waiting ≡ rest ++ turns ∷ [] → suc n ≡ turns → run (goal + left) (now trees k t) (Done (now trees k' t') new) → Extends trees k t k' t' →
+      Waiting k t waiting all run goal left → waiting ≡ rest ++ turns ∷ [] → suc n ≡ turns → run (goal + left) (now trees k t) (Done (now trees k' t') new) →
+      Extends trees k t k' t' →
       HasLeft (goals_of trees k) 1 (goals_of trees k') new → goals_of trees k' ≤ most_goals → reverse new_waiting ≡ replicate new n ++ reverse rest →
       Waiting k' t' new_waiting all run goal left
   turn_on k t k' t' waiting rest new_waiting turns n goal left new all run r is one_less made extends has few pushed =
@@ -125,7 +134,8 @@ module _ {S : Type 0} (trees : S → List Tree) (old : State S) (before : Trace)
         leads = subst (λ xs. Leads all (Waits run xs goal left) (now trees old before) (now trees k' t')) (sym pushed) on;
       }
 
-  pub waits_spent : (k : State S) (t : Trace) (waiting rest : List ℕ) (turns n goal left at : ℕ) (all : Fate) (run : Run) → Waiting k t waiting all run goal left →
+  pub waits_spent : (k : State S) (t : Trace) (waiting rest : List ℕ) (turns n goal left at : ℕ) (all : Fate) (run : Run) →
+      Waiting k t waiting all run goal left →
       waiting ≡ rest ++ turns ∷ [] → suc n ≡ turns → run (goal + left) (now trees k t) (Budget at) → all (now trees old before) (Budget at)
   waits_spent k t waiting rest turns n goal left at all run r is one_less over =
       let shape : Waits run (reverse waiting) goal left ≡ Waits run (suc n ∷ reverse rest) goal left =
@@ -137,25 +147,30 @@ module _ {S : Type 0} (trees : S → List Tree) (old : State S) (before : Trace)
   pub waits_end : (k : State S) (t : Trace) (waiting : List ℕ) (goal left : ℕ) (all : Fate) (run : Run) → Waiting k t waiting all run goal left → waiting ≡ [] →
       all (now trees old before) (Done (now trees k t) left)
   waits_end k t waiting goal left all run r none =
-      leads_end all (now trees old before) (now trees k t) left (subst (λ xs. Leads all (Waits run (reverse xs) goal left) (now trees old before) (now trees k t)) none r.leads)
+      leads_end all (now trees old before) (now trees k t) left
+      (subst (λ xs. Leads all (Waits run (reverse xs) goal left) (now trees old before) (now trees k t)) none r.leads)
 
   one_less : (n : ℕ) → n ≢ 0 → suc (n - 1) ≡ n
   one_less zero h = absurd (h refl)
   one_less (suc n) h = omega arith
 
-  pub waits_init : (goal times : ℕ) (waiting : List ℕ) (run : Run) → IsReady trees old before goal 1 → waiting ≡ times ∷ [] → Waiting old before waiting (Again run times goal) run goal 0
+  pub waits_init : (goal times : ℕ) (waiting : List ℕ) (run : Run) → IsReady trees old before goal 1 → waiting ≡ times ∷ [] →
+      Waiting old before waiting (Again run times goal) run goal 0
   waits_init goal times waiting run ready is =
       let one : length waiting ≡ 1 = ap length is in
       record {
         extends = extends_same trees old before goal 1 ready;
         counted = omega (arith, one);
         few = ready.few;
-        leads = subst (λ xs. Leads (Again run times goal) (Waits run (reverse xs) goal 0) (now trees old before) (now trees old before)) (sym is) (waits_first run times goal (now trees old before));
+        leads = subst (λ xs. Leads (Again run times goal) (Waits run (reverse xs) goal 0) (now trees old before) (now trees old before)) (sym is)
+            (waits_first run times goal (now trees old before));
       }
 
-  pub turn_none : (k : State S) (t : Trace) (k' : State S) (t' : Trace) (waiting rest : List ℕ) (turns goal left : ℕ) (all : Fate) (run : Run) (found : Option ℕ) →
+  pub turn_none : (k : State S) (t : Trace) (k' : State S) (t' : Trace) (waiting rest : List ℕ) (turns goal left : ℕ) (all : Fate) (run : Run)
+      (found : Option ℕ) →
       Keeps (trees k.store) (trees k'.store) → Waiting k t waiting all run goal left → waiting ≡ rest ++ turns ∷ [] → turns ≢ 0 → found ≡ None →
-      BecomesTried (run (goal + left)) (now trees k t) (now trees k' t') (Ok found) → IsBackOnNone (IsBack trees k t k' t') (Ok found) → Waiting k' t' rest all run goal (left + 1)
+      BecomesTried (run (goal + left)) (now trees k t) (now trees k' t') (Ok found) → IsBackOnNone (IsBack trees k t k' t') (Ok found) →
+      Waiting k' t' rest all run goal (left + 1)
   turn_none k t k' t' waiting rest turns goal left all run found keeps r is some none fate backs =
       let f = subst (λ (o : Option ℕ). BecomesTried (run (goal + left)) (now trees k t) (now trees k' t') (Ok o)) none fate in
       let back = subst (λ (o : Option ℕ). IsBackOnNone (IsBack trees k t k' t') (Ok o)) none backs in
@@ -167,7 +182,8 @@ module _ {S : Type 0} (trees : S → List Tree) (old : State S) (before : Trace)
 
   -- a run that counts nothing changes nothing
   pub turn_still : (k : State S) (t : Trace) (k' : State S) (t' : Trace) (waiting rest : List ℕ) (turns goal left new : ℕ) (all : Fate) (tactic : Tactic) →
-      Waiting k t waiting all (Runs tactic 1) goal left → waiting ≡ rest ++ turns ∷ [] → Runs tactic 1 (goal + left) (now trees k t) (Done (now trees k' t') new) → Extends trees k t k' t' →
+      Waiting k t waiting all (Runs tactic 1) goal left → waiting ≡ rest ++ turns ∷ [] →
+      Runs tactic 1 (goal + left) (now trees k t) (Done (now trees k' t') new) → Extends trees k t k' t' →
       HasLeft (goals_of trees k) 1 (goals_of trees k') new → t'.used ≡ t.used → Waiting k' t' rest all (Runs tactic 1) goal (left + 1)
   turn_still k t k' t' waiting rest turns goal left new all tactic r is run extends has used =
       let here = now trees k t in
@@ -181,17 +197,20 @@ module _ {S : Type 0} (trees : S → List Tree) (old : State S) (before : Trace)
       turn_over k t k' t' waiting rest turns goal left all (Runs tactic 1) r is back extends (omega (arith, has, one))
 
   pub turn_some : (k : State S) (t : Trace) (k' : State S) (t' : Trace) (waiting rest new_waiting : List ℕ) (turns goal left new : ℕ) (all : Fate) (run : Run) →
-      Waiting k t waiting all run goal left → waiting ≡ rest ++ turns ∷ [] → turns ≢ 0 → run (goal + left) (now trees k t) (Done (now trees k' t') new) → Extends trees k t k' t' →
+      Waiting k t waiting all run goal left → waiting ≡ rest ++ turns ∷ [] → turns ≢ 0 → run (goal + left) (now trees k t) (Done (now trees k' t') new) →
+      Extends trees k t k' t' →
       HasLeft (goals_of trees k) 1 (goals_of trees k') new → goals_of trees k' ≤ most_goals → reverse new_waiting ≡ replicate new (turns - 1) ++ reverse rest →
       Waiting k' t' new_waiting all run goal left
   turn_some k t k' t' waiting rest new_waiting turns goal left new all run r is some made extends has few pushed =
       turn_on k t k' t' waiting rest new_waiting turns (turns - 1) goal left new all run r is (one_less turns some) made extends has few pushed
 
   pub turn_err : (k : State S) (t : Trace) (k' : State S) (t' : Trace) (waiting rest : List ℕ) (turns goal left : ℕ) (all : Fate) (run : Run) (e : RunFault) →
-      Waiting k t waiting all run goal left → waiting ≡ rest ++ turns ∷ [] → turns ≢ 0 → BecomesTried (run (goal + left)) (now trees k t) (now trees k' t') (Err e) →
+      Waiting k t waiting all run goal left → waiting ≡ rest ++ turns ∷ [] → turns ≢ 0 →
+      BecomesTried (run (goal + left)) (now trees k t) (now trees k' t') (Err e) →
       Becomes all (now trees old before) (now trees k' t') (Err e)
   turn_err k t k' t' waiting rest turns goal left all run (fault.Fails at why) r is some fate = absurd fate
-  turn_err k t k' t' waiting rest turns goal left all run (fault.Budget at) r is some fate = waits_spent k t waiting rest turns (turns - 1) goal left at all run r is (one_less turns some) fate
+  turn_err k t k' t' waiting rest turns goal left all run (fault.Budget at) r is some fate =
+      waits_spent k t waiting rest turns (turns - 1) goal left at all run r is (one_less turns some) fate
   turn_err k t k' t' waiting rest turns goal left all run fault.Memory r is some fate = tt
 
   pub extends_here : (k : State S) (t : Trace) → Extends trees old before k t → Extends trees k t k t
@@ -203,7 +222,8 @@ module _ {S : Type 0} (trees : S → List Tree) (old : State S) (before : Trace)
     within = extends.within;
   }
 
-  pub waits_ready : (k : State S) (t : Trace) (waiting rest : List ℕ) (turns goal left : ℕ) (all : Fate) (run : Run) → IsReady trees old before goal 1 → Waiting k t waiting all run goal left →
+  pub waits_ready : (k : State S) (t : Trace) (waiting rest : List ℕ) (turns goal left : ℕ) (all : Fate) (run : Run) → IsReady trees old before goal 1 →
+      Waiting k t waiting all run goal left →
       waiting ≡ rest ++ turns ∷ [] → IsReady trees k t (goal + left) 1
   waits_ready k t waiting rest turns goal left all run ready r is =
       let longer = one_longer waiting rest turns is in

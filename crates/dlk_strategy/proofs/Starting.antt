@@ -7,7 +7,8 @@ use Rattle.dlk_calculus.specs.Provables.{Provable, started}
 use Rattle.dlk_calculus.specs.Steps.{Start, start, StepOf, Adds}
 use Rattle.dlk_kernel.proofs.Starting.{alone_is, started_is, none_against}
 
-pub starts : (formula : Tree) → IsFormula formula → IsSmall formula → IsShallow formula → StepOf [] (Start (alone_right formula)) (started (alone_right formula))
+pub starts : (formula : Tree) → IsFormula formula → IsSmall formula → IsShallow formula →
+    StepOf [] (Start (alone_right formula)) (started (alone_right formula))
 starts formula is small shallow = record {
   given = start (alone_right formula) (alone_is formula is);
   allowed = λ why. none_against formula why is small shallow;

@@ -1,5 +1,6 @@
 -- What runs make of kernels and of what they keep.
-use Rattle.std.proofs.Common.{◌≡◌, ℕ, zero, suc, ◌+◌, ◌-◌, ◌≤◌, ◌<◌, List, [], ◌∷◌, ◌++◌, map, take, drop, length, get_or, refl, sym, ap, subst, ◌∙◌, arith, length-append, length-take, length-drop}
+use Rattle.std.proofs.Common.{◌≡◌, ℕ, zero, suc, ◌+◌, ◌-◌, ◌≤◌, ◌<◌, List, [], ◌∷◌, ◌++◌, map, take, drop, length, get_or, refl, sym, ap, subst, ◌∙◌}
+use Rattle.std.proofs.Common.{arith, length-append, length-take, length-drop}
 use Rattle.std.specs.List.{All}
 use Rattle.std.proofs.lemmas.List.{map-append, length-map, take_all}
 use Rattle.std.proofs.lemmas.List.Elements.{All-head, All-tail, All-append, All-weaker}
@@ -85,7 +86,8 @@ counted_as rows after goal atom made b a first room is eb ea =
     (omega (arith, n.1, eb, ea), omega (arith, n.1, eb, ea))
 
 -- the fact is the last row
-pub of_last : (rows after : List Provable) (fact goal : ℕ) (atom : Atom) (made : List TreeStep) → fact ≡ length rows → AtomSteps rows fact goal atom made after →
+pub of_last : (rows after : List Provable) (fact goal : ℕ) (atom : Atom) (made : List TreeStep) → fact ≡ length rows →
+    AtomSteps rows fact goal atom made after →
     AtomSteps rows (length rows) goal atom made after
 of_last rows after fact goal atom made is h = subst (λ n. AtomSteps rows n goal atom made after) is h
 
@@ -93,10 +95,12 @@ pub once_done : (atom : Atom) (goal used left : ℕ) (rows after : List Provable
     AtomSteps rows (length rows) goal atom made after → length (main_goals after) + 1 ≡ length (main_goals rows) + left → all ≡ before ++ made →
     Once atom goal (record { steps = before; rows = rows; used = used }) (Done (record { steps = all; rows = after; used = used + 1 }) left)
 once_done atom goal used left rows after before made all room is n e =
-    let P : List TreeStep → Type 0 = λ xs. Once atom goal (record { steps = before; rows = rows; used = used }) (Done (record { steps = xs; rows = after; used = used + 1 }) left) in
+    let P : List TreeStep → Type 0 = λ xs. Once atom goal (record { steps = before; rows = rows; used = used })
+    (Done (record { steps = xs; rows = after; used = used + 1 }) left) in
     subst P (sym e) (steps room is n)
 
-pub once_fails : (atom : Atom) (goal fact : ℕ) (now : Progress) (why : FailWhy) → now.used < most_runs → fact ≡ length now.rows → AtomFault now.rows fact goal atom why →
+pub once_fails : (atom : Atom) (goal fact : ℕ) (now : Progress) (why : FailWhy) → now.used < most_runs → fact ≡ length now.rows →
+    AtomFault now.rows fact goal atom why →
     Once atom goal now (Fails atom.at why (now.used + 1))
 once_fails atom goal fact now why room is h = fault room (subst (λ n. AtomFault now.rows n goal atom why) is h)
 
@@ -104,7 +108,8 @@ once_fails atom goal fact now why room is h = fault room (subst (λ n. AtomFault
 pub same_extends : {S : Type 0} (trees : S → List Tree) (old new : State S) → SameRows trees old new → ExtendsRows trees old new
 same_extends trees old new same = record {
   ids = ap (take (length old.rows)) same.ids ∙ take-length old.rows;
-  provables = take_all (length old.rows) (facts trees new) (omega (arith, ap length same.ids, length-map new.rows (provable_at (trees new.store)))) ∙ same.provables;
+  provables = take_all (length old.rows) (facts trees new) (omega (arith, ap length same.ids, length-map new.rows (provable_at (trees new.store))))
+      ∙ same.provables;
 }
 
 pub item_here : {A : Type 0} (items : List A) (i : ℕ) (a : A) → i < length items → a ≡ get_or items i a → drop i items ≡ a ∷ drop (i + 1) items

@@ -75,7 +75,8 @@ module _ (atom_taken : (rows : List Provable) (fact goal : ℕ) (atom : Atom) (s
 
   pub run_taken : (t : Tactic) (formula : Tree) (made : Progress) (left : ℕ) → RunsPlain t formula (Done made left) → Takes [] made.steps made.rows
   run_taken t formula made left r =
-      keeps_fate IsTaken AnyAtom (λ now used taken. taken) (λ n atom is. tt) uses_any (λ now goal atom new rows is taken by. taken_on now goal atom new rows taken by)
+      keeps_fate IsTaken AnyAtom (λ now used taken. taken) (λ n atom is. tt) uses_any
+      (λ now goal atom new rows is taken by. taken_on now goal atom new rows taken by)
       t 1 1 (each_any t) (begun formula r.provable) (Done made left) (one_step no_step r.start) r.run
 
   module _ (taken_formulas : (steps : List Step) (rows : List Provable) → Takes [] steps rows → All HasFormulas rows)
@@ -113,5 +114,6 @@ module _ (atom_replaces : (rows : List Provable) (goal : ℕ) (atom : Atom) (ste
   run_shows t formula made left r =
       let shown = start_shows formula [] r.provable (Start (alone_right formula)) refl r.start.given in
       let first : Shows formula (begun formula r.provable) = (r.provable, refl, shown) in
-      keeps_fate (Shows formula) AnyAtom (λ now used h. h) (λ n atom is. tt) uses_any (λ now goal atom new rows is h by. shows_on formula now goal atom new rows h by)
+      keeps_fate (Shows formula) AnyAtom (λ now used h. h) (λ n atom is. tt) uses_any
+      (λ now goal atom new rows is h by. shows_on formula now goal atom new rows h by)
       t 1 1 (each_any t) (begun formula r.provable) (Done made left) first r.run

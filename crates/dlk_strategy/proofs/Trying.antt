@@ -22,7 +22,8 @@ use Rattle.dlk_elab.specs.declared.fault.FailWhy.{FailWhy}
 use Rattle.dlk_elab.specs.declared.fault.FailWhy.TheVariants.{NoPlace}
 use Rattle.dlk_elab.proofs.UseFound.{pairs_kept}
 use Rattle.dlk_strategy.specs.declared.trace.Trace.{Trace}
-use Rattle.dlk_strategy.specs.Runs.{Progress, Outcome, Done, Fails, Budget, Follow, done, fails, spent, Ends, Once, placed, formulas, Tries, TriesAll, main_goals}
+use Rattle.dlk_strategy.specs.Runs.{Progress, Outcome, Done, Fails, Budget, Follow, done, fails, spent, Ends, Once, placed, formulas, Tries, TriesAll}
+use Rattle.dlk_strategy.specs.Runs.{main_goals}
 use Rattle.dlk_strategy.specs.Ties.{now, Extends, IsBack}
 use Rattle.dlk_strategy.proofs.States.{steps_same, steps_known, same_extends}
 
@@ -38,7 +39,8 @@ module _ (old new : List Tree) (keeps : Keeps old new) where
 
   pub atom_same : (atom : GivenAtom) → AtomIsKnown old atom → atom_at new atom ≡ atom_at old atom
   atom_same atom h =
-      let same = map-agree (argument_at new) (argument_at old) atom.args (All-weaker (ArgumentIsKnown old) (λ a. argument_at new a ≡ argument_at old a) argument_same atom.args h) in
+      let same = map-agree (argument_at new) (argument_at old) atom.args
+      (All-weaker (ArgumentIsKnown old) (λ a. argument_at new a ≡ argument_at old a) argument_same atom.args h) in
       λ i. record { name = atom.name; arguments = same i; at = atom.at }
 
   pub atom_known : (atom : GivenAtom) → AtomIsKnown old atom → AtomIsKnown new atom
@@ -46,7 +48,8 @@ module _ (old new : List Tree) (keeps : Keeps old new) where
 
 -- what is left where all was taken back
 pub back_now : {S : Type 0} (trees : S → List Tree) (k : State S) (t : Trace) (k' : State S) (t' : Trace) → Keeps (trees k.store) (trees k'.store) →
-    All (HasKnownIds (trees k.store)) t.steps.items → IsBack trees k t k' t' → now trees k' t' ≡ record { steps = map (step_at (trees k.store)) t.steps.items; rows = facts trees k; used = t'.used }
+    All (HasKnownIds (trees k.store)) t.steps.items → IsBack trees k t k' t' →
+    now trees k' t' ≡ record { steps = map (step_at (trees k.store)) t.steps.items; rows = facts trees k; used = t'.used }
 back_now trees k t k' t' keeps known back =
     let same = ap (map (step_at (trees k'.store))) back.steps ∙ steps_same (trees k.store) (trees k'.store) keeps t.steps.items known in
     let rows = back.rows.provables in
@@ -66,7 +69,8 @@ back_extends trees k t k' t' keeps known back = record {
   within = back.within;
 }
 
-pub back_then_back : {S : Type 0} (trees : S → List Tree) (k : State S) (t : Trace) (k' : State S) (t' : Trace) (k'' : State S) (t'' : Trace) → IsBack trees k t k' t' →
+pub back_then_back : {S : Type 0} (trees : S → List Tree) (k : State S) (t : Trace) (k' : State S) (t' : Trace) (k'' : State S) (t'' : Trace) →
+    IsBack trees k t k' t' →
     IsBack trees k' t' k'' t'' → IsBack trees k t k'' t''
 back_then_back trees k t k' t' k'' t'' a b = record {
   rows = record { ids = b.rows.ids ∙ a.rows.ids; provables = b.rows.provables ∙ a.rows.provables };
@@ -75,7 +79,8 @@ back_then_back trees k t k' t' k'' t'' a b = record {
   within = b.within;
 }
 
-pub back_then_more : {S : Type 0} (trees : S → List Tree) (k : State S) (t : Trace) (k' : State S) (t' : Trace) (k'' : State S) (t'' : Trace) → IsBack trees k t k' t' →
+pub back_then_more : {S : Type 0} (trees : S → List Tree) (k : State S) (t : Trace) (k' : State S) (t' : Trace) (k'' : State S) (t'' : Trace) →
+    IsBack trees k t k' t' →
     Extends trees k' t' k'' t'' → Extends trees k t k'' t''
 back_then_more trees k t k' t' k'' t'' a b = record {
   rows = record {
@@ -94,10 +99,12 @@ Leads atom on goal tried why first here = (s : Sequent) → At (main_goals first
     Tries atom goal (length (formulas on s) - tried) (tried + 1) why here o → Tries atom goal (length (formulas on s)) 1 NoPlace first o
 
 pub leads_first : (atom : Atom) (on : Side) (goal : ℕ) (first : Progress) → Leads atom on goal 0 NoPlace first first
-leads_first atom on goal first s stands o t = let e : length (formulas on s) - 0 ≡ length (formulas on s) = omega arith in subst (λ n. Tries atom goal n 1 NoPlace first o) e t
+leads_first atom on goal first s stands o t = let e : length (formulas on s) - 0 ≡ length (formulas on s) = omega arith in
+    subst (λ n. Tries atom goal n 1 NoPlace first o) e t
 
 one_more : (atom : Atom) (goal n tried : ℕ) (why : FailWhy) (here : Progress) (o : Outcome) → tried < n →
-    Follow (Once (placed (tried + 1) atom) goal) Ends (λ at last. Tries atom goal (n - (tried + 1)) (tried + 1 + 1) last) here o → Tries atom goal (n - tried) (tried + 1) why here o
+    Follow (Once (placed (tried + 1) atom) goal) Ends (λ at last. Tries atom goal (n - (tried + 1)) (tried + 1 + 1) last) here o →
+    Tries atom goal (n - tried) (tried + 1) why here o
 one_more atom goal n tried why here o less f =
     let e : suc (n - (tried + 1)) ≡ n - tried = omega (arith, less) in
     subst (λ k. Tries atom goal k (tried + 1) why here o) e f

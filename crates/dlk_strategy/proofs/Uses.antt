@@ -43,7 +43,8 @@ moved_fits byte atom h = record { row = h.row; row_is = h.row_is; arguments = h.
 
 -- what becomes of them is what becomes of `derive`
 pub derived : (atom : Atom) (goal : ℕ) (now : Progress) (s : Sequent) (place : Place) (path : List ℕ) (calls : List Call) (atoms : List Atom) →
-    now.used < most_runs → At (main_goals now.rows) goal s → atom.arguments ≡ AtPlace place path ∷ [] → Plans (formula_at s place) path calls → atoms ≡ map (use_of 0 place) calls →
+    now.used < most_runs → At (main_goals now.rows) goal s → atom.arguments ≡ AtPlace place path ∷ [] → Plans (formula_at s place) path calls →
+    atoms ≡ map (use_of 0 place) calls →
     (o : Outcome) → OneByOne (map (at_byte atom.at) atoms) 1 goal (record now { used = now.used + 1 }) o → RunDerive atom goal now o
 derived atom goal now s place path calls atoms room stands at planned are o runs =
     let uses = ap (map (at_byte atom.at)) are ∙ put_byte atom.at place calls in

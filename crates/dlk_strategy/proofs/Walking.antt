@@ -4,7 +4,8 @@ use Rattle.std.specs.List.{All}
 use Rattle.std.proofs.lemmas.List.Elements.{All-head, All-tail, All-nil, All-cons, All-weaker}
 use Rattle.dlk_tree.specs.Trees.{Tree}
 use Rattle.dlk_store.specs.Stores.{Keeps}
-use Rattle.dlk_tacsyn.specs.declared.tactic.Tactic.{Tactic, Choice, Seq, Branch, One, Choice', Seq', Branch', Repeat', Row_of-Tactic, end_of-Tactic, more_of-Tactic, items-the_row-Tactic, items_hidden-the_row-Tactic-0}
+use Rattle.dlk_tacsyn.specs.declared.tactic.Tactic.{Tactic, Choice, Seq, Branch, One, Choice', Seq', Branch', Repeat', Row_of-Tactic, end_of-Tactic}
+use Rattle.dlk_tacsyn.specs.declared.tactic.Tactic.{more_of-Tactic, items-the_row-Tactic, items_hidden-the_row-Tactic-0}
 use Rattle.dlk_tacsyn.specs.Tactics as the
 use Rattle.dlk_tacsyn.specs.Tactics.{Tactics, no_parts, part, count, EachAtomOf}
 use Rattle.dlk_tacsyn.specs.Rows.{IsRun, AreRun}

@@ -11,7 +11,8 @@ use Rattle.dlk_calculus.specs.Provables.{Provable}
 use Rattle.dlk_calculus.specs.Steps.{Step, Start, StepOf}
 use Rattle.dlk_rules.specs.declared.arguments.Side.{Side}
 use Rattle.dlk_rules.specs.declared.arguments.Side.TheVariants.{Left, Right}
-use Rattle.dlk_tacsyn.specs.Tactics.{Argument, AtPlace, AnyLeft, AnyRight, Word, GivenFormula, GivenTerm, GivenExtra, Atom, Tactic, Choice, Sequence, Branch, Repeat, One, Tactics, no_parts, part, count}
+use Rattle.dlk_tacsyn.specs.Tactics.{Argument, AtPlace, AnyLeft, AnyRight, Word, GivenFormula, GivenTerm, GivenExtra, Atom, Tactic, Choice, Sequence}
+use Rattle.dlk_tacsyn.specs.Tactics.{Branch, Repeat, One, Tactics, no_parts, part, count}
 use Rattle.dlk_library.specs.Expanded.{Expanded}
 use Rattle.dlk_uses.specs.Uses.{formula_at}
 use Rattle.dlk_derive.specs.Plans.{Call}

@@ -23,7 +23,8 @@ use Rattle.dlk_elab.specs.declared.outcome.OnFault.TheVariants as on_fault
 use Rattle.dlk_strategy.specs.declared.fault.RunFault.{RunFault}
 use Rattle.dlk_strategy.specs.declared.fault.RunFault.TheVariants as fault
 use Rattle.dlk_strategy.specs.declared.trace.Trace.{Trace}
-use Rattle.dlk_strategy.specs.Runs.{Progress, Outcome, Done, Fails, Budget, Fate, Run, most_runs, main_goals, Runs, Alternatives, InTurn, OnOwn, Branched, Again, RunNamed}
+use Rattle.dlk_strategy.specs.Runs.{Progress, Outcome, Done, Fails, Budget, Fate, Run, most_runs, main_goals, Runs, Alternatives, InTurn, OnOwn}
+use Rattle.dlk_strategy.specs.Runs.{Branched, Again, RunNamed}
 
 -- the fault is what becomes of a goal; want of memory is free
 abbrev pub IsRunFaultOf : (Outcome → Type 0) → RunFault → Type 0

@@ -13,4 +13,5 @@ returns-clause-part g c = λ t.
     let is : output_with (option_copied c.args.name) (option_map (λ v. v.items) c.args.reply.now.written) ≡ Some (record { name = name; bytes = bytes }) =
     λ i. output_with (option_copied (c.in-Some.is i)) (option_map (λ v. v.items) (c.in-Some-written.is i)) in
     subst (λ o. WrittenInPart o old new) (sym is)
-    (subst (λ (b : List ℕ). WrittenInPart (Some (record { name = name; bytes = b })) old new) c.deref.ensures.value (part_is name c.deref.result.now old new (front.file t) (front.others t)))
+    (subst (λ (b : List ℕ). WrittenInPart (Some (record { name = name; bytes = b })) old new) c.deref.ensures.value
+    (part_is name c.deref.result.now old new (front.file t) (front.others t)))

@@ -19,7 +19,8 @@ returns-in_err-read_all-clause-asks g c =
     let role = get_or c.args.roles.now c.loop-i.i Model in
     let named : c.deref.result.now ≡ string_bytes name = search rules in
     let lt : c.loop-i.i < length c.args.names.now = search rules in
-    let took = subst (λ l. TookUpTo tells l (string_bytes name) mid new) c.limit.ensures.limit (subst (λ n. TookUpTo tells c.limit.result n mid new) named c.read_all.ensures.took) in
+    let took = subst (λ l. TookUpTo tells l (string_bytes name) mid new) c.limit.ensures.limit
+    (subst (λ n. TookUpTo tells c.limit.result n mid new) named c.read_all.ensures.took) in
     asked_further tells c.args.names.now c.args.roles.now name role Model c.loop-i.i old mid new
     lt (omega (arith, lt, c.requires)) c.index-names-i.is refl c.loop-i.invariant.asks c.loop-i.invariant.only.files took
 
@@ -33,7 +34,8 @@ returns-in_err-push-clause-asks g c =
     let role = get_or c.args.roles.now c.loop-i.i Model in
     let named : c.deref.result.now ≡ string_bytes name = search rules in
     let lt : c.loop-i.i < length c.args.names.now = search rules in
-    let took = subst (λ l. TookUpTo tells l (string_bytes name) mid new) c.limit.ensures.limit (subst (λ n. TookUpTo tells c.limit.result n mid new) named c.read_all.ensures.took) in
+    let took = subst (λ l. TookUpTo tells l (string_bytes name) mid new) c.limit.ensures.limit
+    (subst (λ n. TookUpTo tells c.limit.result n mid new) named c.read_all.ensures.took) in
     asked_further tells c.args.names.now c.args.roles.now name role Model c.loop-i.i old mid new
     lt (omega (arith, lt, c.requires)) c.index-names-i.is refl c.loop-i.invariant.asks c.loop-i.invariant.only.files took
 
@@ -62,7 +64,8 @@ loop-i-preserved g c =
           lt (omega (arith, lt, c.requires)) c.index-names-i.is refl (c.loop-i.invariant.files t)
           (ap (option_map (take (limit_of role + 1))) (sym (c.loop-i.invariant.only.files t (string_bytes name))) ∙ read.file t));
       asks = asked_next tells c.args.names.now c.args.roles.now name role Model c.loop-i.i old mid new
-          lt (omega (arith, lt, c.requires)) c.index-names-i.is refl c.loop-i.invariant.asks c.loop-i.invariant.only.files (read_took tells (limit_of role) (string_bytes name) bytes.items mid new read);
+          lt (omega (arith, lt, c.requires)) c.index-names-i.is refl c.loop-i.invariant.asks c.loop-i.invariant.only.files
+          (read_took tells (limit_of role) (string_bytes name) bytes.items mid new read);
       count = search rules;
       only = search rules;
     }

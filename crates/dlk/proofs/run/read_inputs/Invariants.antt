@@ -12,7 +12,8 @@ invariant-loop-i g l =
     let old = g.D.Desk.outside l.fn.desk in
     record {
       files : g.D.Desk.tells → cut_bytes_of old.files (map string_bytes l.names) (map limit_of l.roles)
-          ≡ option_map (λ others. texts_of l.inputs.items ++ others) (cut_bytes_of old.files (map string_bytes (drop l.i l.names)) (map limit_of (drop l.i l.roles)));
+          ≡ option_map (λ others. texts_of l.inputs.items ++ others)
+          (cut_bytes_of old.files (map string_bytes (drop l.i l.names)) (map limit_of (drop l.i l.roles)));
       asks : AsksFor g.D.Desk.tells (map string_bytes l.names) (map limit_of l.roles) l.i old now;
       count : length l.inputs.items ≡ l.i;
       only : OnlyReads g.D.Desk.tells old now;

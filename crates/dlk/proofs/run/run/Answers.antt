@@ -21,7 +21,8 @@ returns-in-Ok-give-clause-derived_truly g c = λ t.
     let new = g.D.Desk.outside c.give.new.desk in
     let reply = reply_of c.in-Ok.reply in
     let reads = c.in-Ok.ensures.only in
-    whole_derives (checked_by c.proved_is_checked.ensures c.linked_is_checked.ensures.checked c.trimmed_is_checked.ensures.checked) words c.code.result old new reply
+    whole_derives (checked_by c.proved_is_checked.ensures c.linked_is_checked.ensures.checked c.trimmed_is_checked.ensures.checked) words c.code.result old
+    new reply
     (gives_whole words old mid new reply (option_copied c.output.result) c.output.ensures (c.in-Ok.ensures.ok t) (reads.files t) (reads.printed t)
     (c.in-Ok-give.ensures.file t) (c.in-Ok-give.ensures.printed t) c.code.result c.code.ensures)
 
@@ -33,7 +34,8 @@ returns-in-Ok-give-clause-closed_truly g c = λ t.
     let new = g.D.Desk.outside c.give.new.desk in
     let reply = reply_of c.in-Ok.reply in
     let reads = c.in-Ok.ensures.only in
-    whole_truly (checked_by c.proved_is_checked.ensures c.linked_is_checked.ensures.checked c.trimmed_is_checked.ensures.checked) words c.code.result old new reply
+    whole_truly (checked_by c.proved_is_checked.ensures c.linked_is_checked.ensures.checked c.trimmed_is_checked.ensures.checked) words c.code.result old
+    new reply
     (gives_whole words old mid new reply (option_copied c.output.result) c.output.ensures (c.in-Ok.ensures.ok t) (reads.files t) (reads.printed t)
     (c.in-Ok-give.ensures.file t) (c.in-Ok-give.ensures.printed t) c.code.result c.code.ensures)
 
@@ -45,7 +47,8 @@ returns-in-Ok-give-clause-proves_truly g c = λ t.
     let new = g.D.Desk.outside c.give.new.desk in
     let reply = reply_of c.in-Ok.reply in
     let reads = c.in-Ok.ensures.only in
-    whole_proves (checked_by c.proved_is_checked.ensures c.linked_is_checked.ensures.checked c.trimmed_is_checked.ensures.checked) words c.code.result old new reply
+    whole_proves (checked_by c.proved_is_checked.ensures c.linked_is_checked.ensures.checked c.trimmed_is_checked.ensures.checked) words c.code.result old
+    new reply
     (gives_whole words old mid new reply (option_copied c.output.result) c.output.ensures (c.in-Ok.ensures.ok t) (reads.files t) (reads.printed t)
     (c.in-Ok-give.ensures.file t) (c.in-Ok-give.ensures.printed t) c.code.result c.code.ensures)
 
@@ -81,7 +84,8 @@ returns-in-Ok-give-clause-links_truly g c = λ t.
     let new = g.D.Desk.outside c.give.new.desk in
     let reply = reply_of c.in-Ok.reply in
     let reads = c.in-Ok.ensures.only in
-    whole_links (checked_by c.proved_is_checked.ensures c.linked_is_checked.ensures.checked c.trimmed_is_checked.ensures.checked) c.linked_is_checked.ensures.joined words c.code.result old new reply
+    whole_links (checked_by c.proved_is_checked.ensures c.linked_is_checked.ensures.checked c.trimmed_is_checked.ensures.checked)
+    c.linked_is_checked.ensures.joined words c.code.result old new reply
     (gives_whole words old mid new reply (option_copied c.output.result) c.output.ensures (c.in-Ok.ensures.ok t) (reads.files t) (reads.printed t)
     (c.in-Ok-give.ensures.file t) (c.in-Ok-give.ensures.printed t) c.code.result c.code.ensures)
 
@@ -93,7 +97,8 @@ returns-in-Ok-give-clause-trims_truly g c = λ t.
     let new = g.D.Desk.outside c.give.new.desk in
     let reply = reply_of c.in-Ok.reply in
     let reads = c.in-Ok.ensures.only in
-    whole_trims (checked_by c.proved_is_checked.ensures c.linked_is_checked.ensures.checked c.trimmed_is_checked.ensures.checked) c.trimmed_is_checked.ensures.trimmed words c.code.result old new reply
+    whole_trims (checked_by c.proved_is_checked.ensures c.linked_is_checked.ensures.checked c.trimmed_is_checked.ensures.checked)
+    c.trimmed_is_checked.ensures.trimmed words c.code.result old new reply
     (gives_whole words old mid new reply (option_copied c.output.result) c.output.ensures (c.in-Ok.ensures.ok t) (reads.files t) (reads.printed t)
     (c.in-Ok-give.ensures.file t) (c.in-Ok-give.ensures.printed t) c.code.result c.code.ensures)
 
@@ -120,7 +125,8 @@ returns-in-Ok-give-clause-judges_truly g c = λ t.
 
 pub returns-in-Ok-give-clause-asks : goal.returns-in-Ok-give-clause-asks
 returns-in-Ok-give-clause-asks g c =
-    asks_given g.D.Desk.tells (map string_bytes c.args.words.now) c.code.result (g.D.Desk.outside c.args.desk.now) (g.D.Desk.outside c.work.new.desk) (g.D.Desk.outside c.give.new.desk)
+    asks_given g.D.Desk.tells (map string_bytes c.args.words.now) c.code.result (g.D.Desk.outside c.args.desk.now) (g.D.Desk.outside c.work.new.desk)
+    (g.D.Desk.outside c.give.new.desk)
     c.in-Ok.ensures.asks c.in-Ok.ensures.all c.give.ensures.only
 
 pub returns-clause-derived_truly : goal.returns-clause-derived_truly
@@ -131,7 +137,8 @@ returns-clause-derived_truly g c = λ t.
     let reply = reply_of c.in-Ok.reply in
     let given = c.give.ensures in
     let reads = c.in-Ok.ensures.only in
-    front_derives (checked_by c.proved_is_checked.ensures c.linked_is_checked.ensures.checked c.trimmed_is_checked.ensures.checked) (map string_bytes c.args.words.now) old new reply
+    front_derives (checked_by c.proved_is_checked.ensures c.linked_is_checked.ensures.checked c.trimmed_is_checked.ensures.checked)
+    (map string_bytes c.args.words.now) old new reply
     (breaks_off (map string_bytes c.args.words.now) old mid new reply (option_copied c.output.result) c.output.ensures
     (c.in-Ok.ensures.ok t) (reads.files t) (reads.printed t) (given.part t) (given.front t) (given.file_first t))
 
@@ -143,13 +150,15 @@ returns-clause-closed_truly g c = λ t.
     let reply = reply_of c.in-Ok.reply in
     let given = c.give.ensures in
     let reads = c.in-Ok.ensures.only in
-    front_truly (checked_by c.proved_is_checked.ensures c.linked_is_checked.ensures.checked c.trimmed_is_checked.ensures.checked) (map string_bytes c.args.words.now) old new reply
+    front_truly (checked_by c.proved_is_checked.ensures c.linked_is_checked.ensures.checked c.trimmed_is_checked.ensures.checked)
+    (map string_bytes c.args.words.now) old new reply
     (breaks_off (map string_bytes c.args.words.now) old mid new reply (option_copied c.output.result) c.output.ensures
     (c.in-Ok.ensures.ok t) (reads.files t) (reads.printed t) (given.part t) (given.front t) (given.file_first t))
 
 pub returns-clause-asks : goal.returns-clause-asks
 returns-clause-asks g c =
-    asks_given g.D.Desk.tells (map string_bytes c.args.words.now) 5 (g.D.Desk.outside c.args.desk.now) (g.D.Desk.outside c.work.new.desk) (g.D.Desk.outside c.give.new.desk)
+    asks_given g.D.Desk.tells (map string_bytes c.args.words.now) 5 (g.D.Desk.outside c.args.desk.now) (g.D.Desk.outside c.work.new.desk)
+    (g.D.Desk.outside c.give.new.desk)
     c.in-Ok.ensures.asks c.in-Ok.ensures.all c.give.ensures.only
 
 pub returns-clause-answered : goal.returns-clause-answered
@@ -177,19 +186,23 @@ returns-in-Ok-give-clause-looks g c = λ t.
     let reply = reply_of c.in-Ok.reply in
     let printed = c.in-Ok-give.ensures.printed t ∙ ap (λ (l : List ℕ). l ++ reply.printed) (c.in-Ok.ensures.only.printed t) in
     subst (λ status. LooksAtFew words status old new c.args.steps.now c.work.new.steps) (sym c.code.ensures)
-    (given_looked words old new _ _ (c.work.ensures.looks t) reply (c.in-Ok.ensures.ok t) (λ two. none_written c.in-Ok.reply.written (c.in-Ok.ensures.refusal two)) printed)
+    (given_looked words old new _ _ (c.work.ensures.looks t) reply (c.in-Ok.ensures.ok t)
+    (λ two. none_written c.in-Ok.reply.written (c.in-Ok.ensures.refusal two)) printed)
 
 pub returns-clause-looks : goal.returns-clause-looks
 returns-clause-looks g c = λ t.
-    ungiven_looked (map string_bytes c.args.words.now) (g.D.Desk.outside c.args.desk.now) (g.D.Desk.outside c.give.new.desk) _ _ (c.work.ensures.looks t) 5 (λ e. absurd (omega (arith, e)))
+    ungiven_looked (map string_bytes c.args.words.now) (g.D.Desk.outside c.args.desk.now) (g.D.Desk.outside c.give.new.desk) _ _ (c.work.ensures.looks t) 5
+    (λ e. absurd (omega (arith, e)))
 
 pub returns-in-Err-Memory-clause-looks : goal.returns-in-Err-Memory-clause-looks
 returns-in-Err-Memory-clause-looks g c = λ t.
-    ungiven_looked (map string_bytes c.args.words.now) (g.D.Desk.outside c.args.desk.now) (g.D.Desk.outside c.work.new.desk) _ _ (c.work.ensures.looks t) 6 (λ e. absurd (omega (arith, e)))
+    ungiven_looked (map string_bytes c.args.words.now) (g.D.Desk.outside c.args.desk.now) (g.D.Desk.outside c.work.new.desk) _ _ (c.work.ensures.looks t) 6
+    (λ e. absurd (omega (arith, e)))
 
 pub returns-in-Err-Fault-clause-looks : goal.returns-in-Err-Fault-clause-looks
 returns-in-Err-Fault-clause-looks g c = λ t.
-    ungiven_looked (map string_bytes c.args.words.now) (g.D.Desk.outside c.args.desk.now) (g.D.Desk.outside c.work.new.desk) _ _ (c.work.ensures.looks t) 4 (λ e. absurd (omega (arith, e)))
+    ungiven_looked (map string_bytes c.args.words.now) (g.D.Desk.outside c.args.desk.now) (g.D.Desk.outside c.work.new.desk) _ _ (c.work.ensures.looks t) 4
+    (λ e. absurd (omega (arith, e)))
 
 pub returns-in-Err-Memory-clause-derived_truly : goal.returns-in-Err-Memory-clause-derived_truly
 returns-in-Err-Memory-clause-derived_truly g c = λ t.

@@ -11,7 +11,8 @@ use Rattle.dlk.proofs.run.work.Goals as goal
 
 pub returns-in_default-clause-ok : goal.returns-in_default-clause-ok
 returns-in_default-clause-ok g c = λ told.
-    subst (λ (reply : Reply). Answers (map string_bytes c.args.call.words.now) (g.D.Desk.outside c.args.desk.now).files reply) (sym c.in_ok-words_refused.ensures) (no_form (search rules))
+    subst (λ (reply : Reply). Answers (map string_bytes c.args.call.words.now) (g.D.Desk.outside c.args.desk.now).files reply)
+    (sym c.in_ok-words_refused.ensures) (no_form (search rules))
 
 pub returns-clause-ok : goal.returns-clause-ok
 returns-clause-ok g c =
@@ -20,7 +21,8 @@ returns-clause-ok g c =
     ap length (sym c.inputs.ensures.names) ∙ length-map c.inputs.result.now (string_bytes {Z = Global}) ∙ c.inputs.ensures.count ∙
     sym (length-map (form_of command).inputs limit_of) in
     λ told.
-    answered (map string_bytes c.args.call.words.now) c.in-Some.command (g.D.Desk.outside c.args.desk.now).files (texts_of c.in_ok-inputs.inputs.items) (reply_of c.in_ok-respond.field-0)
+    answered (map string_bytes c.args.call.words.now) c.in-Some.command (g.D.Desk.outside c.args.desk.now).files (texts_of c.in_ok-inputs.inputs.items)
+    (reply_of c.in_ok-respond.field-0)
     (search rules) (search rules) (search rules) (search rules)
 
 pub returns-clause-missing : goal.returns-clause-missing
@@ -49,7 +51,8 @@ returns-clause-refusal g c = λ two.
 
 pub returns-clause-asks : goal.returns-clause-asks
 returns-clause-asks g c =
-    asks_words g.D.Desk.tells (map string_bytes c.args.call.words.now) (map string_bytes c.inputs.result.now) c.in-Some.command c.form.result (g.D.Desk.outside c.args.desk.now) (g.D.Desk.outside c.read_inputs.new.desk)
+    asks_words g.D.Desk.tells (map string_bytes c.args.call.words.now) (map string_bytes c.inputs.result.now) c.in-Some.command c.form.result
+    (g.D.Desk.outside c.args.desk.now) (g.D.Desk.outside c.read_inputs.new.desk)
     (search rules) c.inputs.ensures.names c.form.ensures c.in_ok-inputs.ensures.asks
 
 pub returns-in_default-clause-looks : goal.returns-in_default-clause-looks
@@ -62,7 +65,8 @@ returns-clause-looks g c =
     ap length (sym c.inputs.ensures.names) ∙ length-map c.inputs.result.now (string_bytes {Z = Global}) ∙ c.inputs.ensures.count ∙
     sym (length-map (form_of command).inputs limit_of) in
     λ told.
-    command_looked (map string_bytes c.args.call.words.now) c.in-Some.command (g.D.Desk.outside c.args.desk.now).files (texts_of c.in_ok-inputs.inputs.items) _ _
+    command_looked (map string_bytes c.args.call.words.now) c.in-Some.command (g.D.Desk.outside c.args.desk.now).files
+    (texts_of c.in_ok-inputs.inputs.items) _ _
     (search rules) (search rules) (search rules) (rw c.deref.ensures.value at c.respond.ensures.looks)
 
 pub returns-in_err-respond-clause-looks : goal.returns-in_err-respond-clause-looks
@@ -72,5 +76,6 @@ returns-in_err-respond-clause-looks g c =
     ap length (sym c.inputs.ensures.names) ∙ length-map c.inputs.result.now (string_bytes {Z = Global}) ∙ c.inputs.ensures.count ∙
     sym (length-map (form_of command).inputs limit_of) in
     λ told.
-    command_looked (map string_bytes c.args.call.words.now) c.in-Some.command (g.D.Desk.outside c.args.desk.now).files (texts_of c.in_ok-inputs.inputs.items) _ _
+    command_looked (map string_bytes c.args.call.words.now) c.in-Some.command (g.D.Desk.outside c.args.desk.now).files
+    (texts_of c.in_ok-inputs.inputs.items) _ _
     (search rules) (search rules) (search rules) (rw c.deref.ensures.value at c.respond.ensures.looks)

@@ -6,7 +6,8 @@ use Rattle.dlk_rules.specs.Words.{wanted}
 use Rattle.dlk_tacsyn.specs.declared.tactic.Arg.TheVariants.{Word}
 use Rattle.dlk_tacsyn.specs.Ties.{argument_at}
 use Rattle.dlk_elab.specs.Atoms.{IsThere}
-use Rattle.dlk_elab.proofs.RuleArguments.{one_item, two_items, for_place, for_places, for_formula, for_formula_alone, for_name, no_place, no_first, no_formula, no_place_behind_formula, no_word, no_formula_alone, place_fault}
+use Rattle.dlk_elab.proofs.RuleArguments.{one_item, two_items, for_place, for_places, for_formula, for_formula_alone, for_name, no_place, no_first}
+use Rattle.dlk_elab.proofs.RuleArguments.{no_formula, no_place_behind_formula, no_word, no_formula_alone, place_fault}
 use Rattle.dlk_elab.proofs.arguments.rule_arguments.Goals as goal
 
 pub returns-in_err-i-in-OnePlace-clause-fault : goal.returns-in_err-i-in-OnePlace-clause-fault

@@ -13,7 +13,8 @@ returns-in_err-place-clause-fault g c =
 
 pub box_parts-requires : goal.box_parts-requires
 box_parts-requires g c =
-    At_All (IsId (g.S.Store.trees c.args.store.now)) c.args.s.now.succ c.in_ok-place.place c.in_ok-place.formula c.requires.known.succ c.in_ok-place.ensures.stands
+    At_All (IsId (g.S.Store.trees c.args.store.now)) c.args.s.now.succ c.in_ok-place.place c.in_ok-place.formula c.requires.known.succ
+    c.in_ok-place.ensures.stands
 
 pub returns-in_default-clause-fault : goal.returns-in_default-clause-fault
 returns-in_default-clause-fault g c =

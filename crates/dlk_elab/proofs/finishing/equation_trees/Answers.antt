@@ -9,7 +9,8 @@ use Rattle.dlk_elab.proofs.finishing.equation_trees.Goals as goal
 pub with_sides-requires-clause-spine : goal.with_sides-requires-clause-spine
 with_sides-requires-clause-spine g c =
     let a = c.args.store.now in let b = c.equated.new.store in
-    c.spine_stays.ensures.spine (g.S.Store.trees a) (g.S.Store.trees b) c.args.around.now.inner (g.met.S.Store.grows_keeps a b c.equated.ensures.grows) c.requires.inner
+    c.spine_stays.ensures.spine (g.S.Store.trees a) (g.S.Store.trees b) c.args.around.now.inner (g.met.S.Store.grows_keeps a b c.equated.ensures.grows)
+    c.requires.inner
 
 pub with_sides-requires-clause-left : goal.with_sides-requires-clause-left
 with_sides-requires-clause-left g c =
@@ -22,7 +23,8 @@ with_sides-requires-clause-right g c =
 pub with_sides-requires-clause-found : goal.with_sides-requires-clause-found
 with_sides-requires-clause-found g c =
     let a = c.args.store.now in let b = c.equated.new.store in
-    ap sort (c.spine_stays.ensures.found (g.S.Store.trees a) (g.S.Store.trees b) c.args.around.now.inner (g.met.S.Store.grows_keeps a b c.equated.ensures.grows) c.requires.inner) ∙
+    ap sort (c.spine_stays.ensures.found (g.S.Store.trees a) (g.S.Store.trees b) c.args.around.now.inner
+    (g.met.S.Store.grows_keeps a b c.equated.ensures.grows) c.requires.inner) ∙
     c.requires.term
 
 pub with_sides-requires-clause-first : goal.with_sides-requires-clause-first
@@ -60,9 +62,11 @@ exchanged-requires-clause-first g c =
     let spine = c.spine_stays.ensures.spine old now way ab c.requires.inner in
     let found = ap sort (c.spine_stays.ensures.found old now way ab c.requires.inner) ∙ c.requires.term in
     let side = ap sort (ab.same c.args.sides.left c.requires.left) ∙ c.requires.first in
-    let put = c.put_is_there.ensures.sort (tree now (top way)) (path_of way) (tree now way.found) (tree now c.args.sides.left) (c.spine_leads.ensures.leads now way spine)
+    let put = c.put_is_there.ensures.sort (tree now (top way)) (path_of way) (tree now way.found) (tree now c.args.sides.left)
+    (c.spine_leads.ensures.leads now way spine)
     (side ∙ sym found) in
-    ap sort c.in_ok-both.ensures.left.tree_is ∙ put ∙ ap sort (c.spine_stays.ensures.top old now way ab c.requires.inner ∙ c.requires.joins) ∙ c.requires.formula
+    ap sort c.in_ok-both.ensures.left.tree_is ∙ put ∙ ap sort (c.spine_stays.ensures.top old now way ab c.requires.inner ∙ c.requires.joins)
+    ∙ c.requires.formula
 
 pub exchanged-requires-clause-second : goal.exchanged-requires-clause-second
 exchanged-requires-clause-second g c =
@@ -73,14 +77,17 @@ exchanged-requires-clause-second g c =
     let spine = c.spine_stays.ensures.spine old now way ab c.requires.inner in
     let found = ap sort (c.spine_stays.ensures.found old now way ab c.requires.inner) ∙ c.requires.term in
     let side = ap sort (ab.same c.args.sides.right c.requires.right) ∙ c.requires.second in
-    let put = c.put_is_there.ensures.sort (tree now (top way)) (path_of way) (tree now way.found) (tree now c.args.sides.right) (c.spine_leads.ensures.leads now way spine)
+    let put = c.put_is_there.ensures.sort (tree now (top way)) (path_of way) (tree now way.found) (tree now c.args.sides.right)
+    (c.spine_leads.ensures.leads now way spine)
     (side ∙ sym found) in
-    ap sort c.in_ok-both.ensures.right.tree_is ∙ put ∙ ap sort (c.spine_stays.ensures.top old now way ab c.requires.inner ∙ c.requires.joins) ∙ c.requires.formula
+    ap sort c.in_ok-both.ensures.right.tree_is ∙ put ∙ ap sort (c.spine_stays.ensures.top old now way ab c.requires.inner ∙ c.requires.joins)
+    ∙ c.requires.formula
 
 pub returns-in_err-exchanged-clause-grows : goal.returns-in_err-exchanged-clause-grows
 returns-in_err-exchanged-clause-grows g c =
     let a = c.args.store.now in let d = c.with_sides.new.store in
-    g.met.S.Store.grows_trans a d c.exchanged.new.store (g.met.S.Store.grows_trans a c.equated.new.store d c.equated.ensures.grows c.with_sides.ensures.grows) c.exchanged.ensures.grows
+    g.met.S.Store.grows_trans a d c.exchanged.new.store (g.met.S.Store.grows_trans a c.equated.new.store d c.equated.ensures.grows c.with_sides.ensures.grows)
+    c.exchanged.ensures.grows
 
 pub returns-clause-made : goal.returns-clause-made
 returns-clause-made g c =
@@ -105,4 +112,5 @@ returns-clause-made g c =
 pub returns-clause-grows : goal.returns-clause-grows
 returns-clause-grows g c =
     let a = c.args.store.now in let d = c.with_sides.new.store in
-    g.met.S.Store.grows_trans a d c.exchanged.new.store (g.met.S.Store.grows_trans a c.equated.new.store d c.equated.ensures.grows c.with_sides.ensures.grows) c.exchanged.ensures.grows
+    g.met.S.Store.grows_trans a d c.exchanged.new.store (g.met.S.Store.grows_trans a c.equated.new.store d c.equated.ensures.grows c.with_sides.ensures.grows)
+    c.exchanged.ensures.grows

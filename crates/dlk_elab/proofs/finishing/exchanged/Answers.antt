@@ -37,7 +37,8 @@ put-requires-2-clause-sort g c =
 pub returns-in_err-new-clause-grows : goal.returns-in_err-new-clause-grows
 returns-in_err-new-clause-grows g c =
     let a = c.args.store.now in let d = c.put.new.store in
-    g.met.S.Store.grows_trans a d c.put-2.new.store (g.met.S.Store.grows_trans a c.make.new.self d c.make.ensures.grows c.put.ensures.grows) c.put-2.ensures.grows
+    g.met.S.Store.grows_trans a d c.put-2.new.store (g.met.S.Store.grows_trans a c.make.new.self d c.make.ensures.grows c.put.ensures.grows)
+    c.put-2.ensures.grows
 
 pub returns-clause-made : goal.returns-clause-made
 returns-clause-made g c =
@@ -65,4 +66,5 @@ returns-clause-made g c =
 pub returns-clause-grows : goal.returns-clause-grows
 returns-clause-grows g c =
     let a = c.args.store.now in let d = c.put.new.store in
-    g.met.S.Store.grows_trans a d c.put-2.new.store (g.met.S.Store.grows_trans a c.make.new.self d c.make.ensures.grows c.put.ensures.grows) c.put-2.ensures.grows
+    g.met.S.Store.grows_trans a d c.put-2.new.store (g.met.S.Store.grows_trans a c.make.new.self d c.make.ensures.grows c.put.ensures.grows)
+    c.put-2.ensures.grows

@@ -28,7 +28,8 @@ returns-clause-made g c =
     let made = c.in_ok-x.ensures.made in
     let condition : StandsFor new c.sides_of-whole.result.left (left_of f) = stands_on keeps c.sides_of-whole.result.left whole.left in
     let right_is : right_of f ≡ eq l r = ap right_of c.requires.form.0 ∙ (λ i. eq (sym ll i) (sym rr i)) in
-    let stands : StandsFor new c.sides_of-whole.result.right (eq l r) = stands_as c.sides_of-whole.result.right right_is (stands_on keeps c.sides_of-whole.result.right whole.right) in
+    let stands : StandsFor new c.sides_of-whole.result.right (eq l r) =
+    stands_as c.sides_of-whole.result.right right_is (stands_on keeps c.sides_of-whole.result.right whole.right) in
     conditional_equation_finished new c.args.now c.args.aim (path_of way) e f c.in_ok-made.made.items outer inner d (tree new c.sides_of-whole.result.left) l r
     condition.tree_is ll rr round.innermost
     (λ s right. c.in_ok-made.ensures new s e outer inner d l r condition.known stands made.equated

@@ -19,7 +19,8 @@ returns-clause-made g c =
     let r = tree old c.sides_of-sides.result.right in
     let e = tree old (top way) in
     let made = c.in_ok-x.ensures.made in
-    equation_finished new c.args.now c.args.aim (path_of way) e (tree old c.args.f) c.in_ok-made.made.items outer inner d l r sides.left.tree_is sides.right.tree_is
+    equation_finished new c.args.now c.args.aim (path_of way) e (tree old c.args.f) c.in_ok-made.made.items outer inner d l r sides.left.tree_is
+    sides.right.tree_is
     round.innermost
     (λ s right. c.in_ok-made.ensures new s e outer inner d l r made.equated
     (exchange_same c.in_ok-x.x.exchanged (ap (tree old) round.starts) (λ i. put_at d inner l) (λ i. put_at d inner r) made.exchanged) right)

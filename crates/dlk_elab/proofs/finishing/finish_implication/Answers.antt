@@ -11,5 +11,6 @@ pub returns : goal.returns
 returns g c path e =
     let trees = g.S.Store.trees c.args.store.now in
     let sides = c.sides_of-sides.ensures in
-    implication_finished trees c.args.now c.args.aim path e (tree trees c.args.f) c.in_ok-made.made.items (tree trees c.sides_of-sides.result.left) (tree trees c.sides_of-sides.result.right)
+    implication_finished trees c.args.now c.args.aim path e (tree trees c.args.f) c.in_ok-made.made.items (tree trees c.sides_of-sides.result.left)
+    (tree trees c.sides_of-sides.result.right)
     sides.left.tree_is sides.right.tree_is (λ s right. c.in_ok-made.ensures trees s sides.left.known sides.right.known right)

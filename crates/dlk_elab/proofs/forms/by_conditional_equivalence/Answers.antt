@@ -3,7 +3,8 @@ use Rattle.dlk_store.specs.Stores.{tree}
 use Rattle.dlk_tree.specs.Trees.{Tree}
 use Rattle.dlk_rules.specs.declared.rule.Rule.{Rule}
 use Rattle.dlk_rules.specs.declared.rule.Rule.TheVariants.{CutR, CoHideR, ImplyR, EquivifyR, CommuteEquivR, Cut, ImplyL, Close}
-use Rattle.dlk_calculus.specs.Rules.{CutR as TreeCutR, CoHideR as TreeCoHideR, ImplyR as TreeImplyR, EquivifyR as TreeEquivifyR, CommuteEquivR as TreeCommuteEquivR, Cut as TreeCut, ImplyL as TreeImplyL, Close as TreeClose}
+use Rattle.dlk_calculus.specs.Rules.{CutR as TreeCutR, CoHideR as TreeCoHideR, ImplyR as TreeImplyR, EquivifyR as TreeEquivifyR}
+use Rattle.dlk_calculus.specs.Rules.{CommuteEquivR as TreeCommuteEquivR, Cut as TreeCut, ImplyL as TreeImplyL, Close as TreeClose}
 use Rattle.dlk_uses.specs.Uses.{closed_by}
 use Rattle.dlk_elab.specs.Plans.{ArePlanned}
 use Rattle.dlk_elab.proofs.Turns.{if_ok, all_known}

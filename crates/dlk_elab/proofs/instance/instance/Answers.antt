@@ -17,6 +17,7 @@ returns c trees known =
     let counted : c.in_ok-last.last ≡ rows + 1 + length (renamed (rows + 1) c.args.extra.now.renames) =
     c.in_ok-last.ensures.last ∙ (λ i. rows + 1 + length (renamed (rows + 1) (renames i))) in
     let put : c.substitute.new.steps.items ≡ c.rename.new.steps.items ++ substituted c.in_ok-last.last c.in_ok-extra.extra.pairs = c.in_ok-substitute.ensures in
-    let all : c.substitute.new.steps.items ≡ (step.Axiom c.args.name.now ∷ renamed (rows + 1) c.args.extra.now.renames) ++ substituted c.in_ok-last.last c.args.extra.now.pairs =
+    let all : c.substitute.new.steps.items ≡ (step.Axiom c.args.name.now ∷ renamed (rows + 1) c.args.extra.now.renames)
+    ++ substituted c.in_ok-last.last c.args.extra.now.pairs =
     put ∙ (λ i. turned i ++ substituted c.in_ok-last.last (extra i).pairs) in
     instance_planned trees rows c.in_ok-last.last c.args.name.now c.args.extra.now.renames c.args.extra.now.pairs c.substitute.new.steps.items counted all known

@@ -40,4 +40,5 @@ returns-clause-matches g c =
     let is = subst (λ o. MatchOption o (HasNoMatch (tree trees c.key-key.result) c.as_slice.result.now (tree trees c.args.found) (extra_at trees
     c.unwrap_or-given.result.now)) (IsMatch (tree trees c.key-key.result) c.as_slice.result.now (tree trees c.args.found) (extra_at trees
     c.unwrap_or-given.result.now) (g.S.Store.trees c.matching.new.store))) c.in-Some.is c.in_ok-extra.ensures.found in
-    match_of _ _ _ _ (tree trees c.args.found) _ _ c.key-key.ensures.tree_is c.as_slice.ensures.value given (g.S.Store.trees c.matching.new.store) c.in-Some.extra is
+    match_of _ _ _ _ (tree trees c.args.found) _ _ c.key-key.ensures.tree_is c.as_slice.ensures.value given (g.S.Store.trees c.matching.new.store)
+    c.in-Some.extra is

@@ -15,7 +15,8 @@ use Rattle.dlk_elab.proofs.plan.plan.Goals as goal
 
 pub returns-in_default-clause-fault : goal.returns-in_default-clause-fault
 returns-in_default-clause-fault g c =
-    absurd (c.in_default.ensures.cases.0 (rw c.bytes.ensures.bytes (name_utf8 c.args.atom.now.name c.requires.fitting.row c.requires.plain c.requires.fitting.row_is)))
+    absurd (c.in_default.ensures.cases.0 (rw c.bytes.ensures.bytes
+    (name_utf8 c.args.atom.now.name c.requires.fitting.row c.requires.plain c.requires.fitting.row_is)))
 
 pub returns-then-eq-clause-plan : goal.returns-then-eq-clause-plan
 returns-then-eq-clause-plan g c =
@@ -41,7 +42,8 @@ pub returns-in_default-of-clause-fault : goal.returns-in_default-of-clause-fault
 returns-in_default-of-clause-fault g c =
     let same = c.in-Ok.ensures.cases.0 ∙ c.bytes.ensures.bytes in
     let bare = not_bare c.in-Ok.name.now (sym c.eq.ensures ∙ c.if-eq.false) (sym c.eq-2.ensures ∙ c.if-eq-2.false) (sym c.eq-3.ensures ∙ c.if-eq-3.false) in
-    absurd (no_rule c.args.atom.now.name c.requires.fitting.row (rw same at bare) c.requires.plain c.requires.fitting.row_is (rw same at c.in_default-of.ensures.none))
+    absurd (no_rule c.args.atom.now.name c.requires.fitting.row (rw same at bare) c.requires.plain c.requires.fitting.row_is
+    (rw same at c.in_default-of.ensures.none))
 
 pub returns-clause-fault : goal.returns-clause-fault
 returns-clause-fault g c =
@@ -50,7 +52,8 @@ returns-clause-fault g c =
     let bare = not_bare c.in-Ok.name.now (sym c.eq.ensures ∙ c.if-eq.false) (sym c.eq-2.ensures ∙ c.if-eq-2.false) (sym c.eq-3.ensures ∙ c.if-eq-3.false) in
     let name = sym same ∙ sym c.in-Some.ensures.found in
     plan_place_fault c.args.target.rows c.args.target.fact c.args.target.goal trees (sequent_at trees c.args.s.now) c.args.atom.now c.in-Some.word name
-    (rw (← c.in-Some.ensures.found) at bare) (subst IsPlain name c.requires.plain) c.requires.fitting c.requires.fixed c.rule_plan.result c.rule_plan.ensures.fault
+    (rw (← c.in-Some.ensures.found) at bare) (subst IsPlain name c.requires.plain) c.requires.fitting c.requires.fixed c.rule_plan.result
+    c.rule_plan.ensures.fault
 
 pub returns-then-eq-2-clause-memory : goal.returns-then-eq-2-clause-memory
 returns-then-eq-2-clause-memory g c = λ is.

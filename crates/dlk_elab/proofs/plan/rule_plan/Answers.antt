@@ -24,7 +24,8 @@ returns-clause-plan c = λ trees s known name.
 
 pub returns-in_err-arguments-clause-memory : goal.returns-in_err-arguments-clause-memory
 returns-in_err-arguments-clause-memory c =
-    let p = err_from_is_err_and c.from_residual.result c.from_residual.ensures.1 in rw (p.1, p.2, ← c.as_slice.ensures) (λ is. let why : c.in_err-arguments.field-0.0 ≡ Memory = cc is in
+    let p = err_from_is_err_and c.from_residual.result c.from_residual.ensures.1 in
+    rw (p.1, p.2, ← c.as_slice.ensures) (λ is. let why : c.in_err-arguments.field-0.0 ≡ Memory = cc is in
     c.in_err-arguments.ensures.memory (ap Err why))
 
 pub returns-in_err-push-clause-memory : goal.returns-in_err-push-clause-memory

@@ -11,7 +11,8 @@ loop-at-preserved c =
     let rule : ℕ × Rule = (c.in-Some.at, c.in-Some.rule) in
     let longer = length-append c.loop-at.yielded (rule ∷ []) in
     let row = inv.2 in (
-      c.in_ok-push.ensures.items ∙ (λ i. inv.0 i ++ step.Apply (inv.1 i) c.in-Some.at c.in-Some.rule ∷ []) ∙ sym (one_more c.args.spot.fact c.args.rows c.loop-at.yielded rule),
+      c.in_ok-push.ensures.items ∙ (λ i. inv.0 i ++ step.Apply (inv.1 i) c.in-Some.at c.in-Some.rule ∷ [])
+          ∙ sym (one_more c.args.spot.fact c.args.rows c.loop-at.yielded rule),
       ap (λ n. n + 1) row ∙ sym (behind_more c.args.spot.fact c.args.rows c.loop-at.yielded rule),
       omega (arith, row, longer),
     )

@@ -62,7 +62,8 @@ returns-then-is_empty-clause-fault g c =
     let merges = c.in_ok-merges.merges.items in
     let count = eqb-true _ 0 (sym c.if-is_empty.ensures) in
     let none : length merges ≡ 0 = omega (arith, count) in
-    lacks_goal old c.args.term.items c.args.lemma.items merges (sequent_at old c.args.c.now) rows c.requires.taken (joins_as old rows (sequent_at old c.args.c.now) merges c.len.result (length c.args.lemma.items) (omega arith) c.in_ok-merges.ensures.joins)
+    lacks_goal old c.args.term.items c.args.lemma.items merges (sequent_at old c.args.c.now) rows c.requires.taken
+    (joins_as old rows (sequent_at old c.args.c.now) merges c.len.result (length c.args.lemma.items) (omega arith) c.in_ok-merges.ensures.joins)
     c.requires.conclusion c.requires.term_ends.0 c.requires.term_ends.1 (nothing merges none)
 
 pub take_in_turn-requires : goal.take_in_turn-requires
@@ -80,7 +81,9 @@ returns-in_err-take_in_turn-clause-fault g c =
     let some : 0 < length merges = omega (arith, count) in
     let p = err_from_is_err_and c.from_residual-in_err-take_in_turn.result c.from_residual-in_err-take_in_turn.ensures.1 in
     rw (p.1, p.2) (link_fault _ _ _ (λ why f. fault_made old c.args.term.items c.args.lemma.items merges (sequent_at old c.args.c.now) rows c.requires.taken
-    (joins_as old rows (sequent_at old c.args.c.now) merges c.len.result (length c.args.lemma.items) (omega arith) c.in_ok-merges.ensures.joins) c.requires.conclusion c.requires.term_ends.0 c.requires.term_ends.1 rest (rest_as old c.args.lemma.items merges rest c.len-2.result (length c.args.term.items) (omega arith) (c.in_ok-rest.ensures.steps old))
+    (joins_as old rows (sequent_at old c.args.c.now) merges c.len.result (length c.args.lemma.items) (omega arith) c.in_ok-merges.ensures.joins)
+    c.requires.conclusion c.requires.term_ends.0 c.requires.term_ends.1 rest
+    (rest_as old c.args.lemma.items merges rest c.len-2.result (length c.args.term.items) (omega arith) (c.in_ok-rest.ensures.steps old))
     (c.args.term.items ++ rest) refl some why (subst (λ l. FirstFault rows (map (step_at old) l) why) c.deref.ensures.value f))
     c.in_err-take_in_turn.field-0.0 c.in_err-take_in_turn.ensures.fault)
 
@@ -92,8 +95,11 @@ returns-clause-linked g c =
     let rest = c.in_ok-rest.rest.items in
     let count = eqb-false _ 0 (sym c.if-is_empty.ensures) in
     let some : 0 < length merges = omega (arith, count) in
-    links_made old c.args.term.items c.args.lemma.items merges (sequent_at old c.args.c.now) rows c.requires.taken (joins_as old rows (sequent_at old c.args.c.now) merges c.len.result (length c.args.lemma.items) (omega arith) c.in_ok-merges.ensures.joins)
-    c.requires.conclusion c.requires.term_ends.0 c.requires.term_ends.1 rest (rest_as old c.args.lemma.items merges rest c.len-2.result (length c.args.term.items) (omega arith) (c.in_ok-rest.ensures.steps old)) c.append.new.self.items
+    links_made old c.args.term.items c.args.lemma.items merges (sequent_at old c.args.c.now) rows c.requires.taken
+    (joins_as old rows (sequent_at old c.args.c.now) merges c.len.result (length c.args.lemma.items) (omega arith) c.in_ok-merges.ensures.joins)
+    c.requires.conclusion c.requires.term_ends.0 c.requires.term_ends.1 rest
+    (rest_as old c.args.lemma.items merges rest c.len-2.result (length c.args.term.items) (omega arith) (c.in_ok-rest.ensures.steps old))
+    c.append.new.self.items
     c.in_ok-append.ensures.items some
 
 pub returns-clause-rows : goal.returns-clause-rows
@@ -103,8 +109,11 @@ returns-clause-rows g c =
     let after = facts g.S.Store.trees c.take_in_turn.new.kernel in
     let merges = c.in_ok-merges.merges.items in
     let rest = c.in_ok-rest.rest.items in
-    takes_made old c.args.term.items c.args.lemma.items merges (sequent_at old c.args.c.now) rows c.requires.taken (joins_as old rows (sequent_at old c.args.c.now) merges c.len.result (length c.args.lemma.items) (omega arith) c.in_ok-merges.ensures.joins)
-    c.requires.conclusion c.requires.term_ends.0 c.requires.term_ends.1 rest (rest_as old c.args.lemma.items merges rest c.len-2.result (length c.args.term.items) (omega arith) (c.in_ok-rest.ensures.steps old)) c.append.new.self.items
+    takes_made old c.args.term.items c.args.lemma.items merges (sequent_at old c.args.c.now) rows c.requires.taken
+    (joins_as old rows (sequent_at old c.args.c.now) merges c.len.result (length c.args.lemma.items) (omega arith) c.in_ok-merges.ensures.joins)
+    c.requires.conclusion c.requires.term_ends.0 c.requires.term_ends.1 rest
+    (rest_as old c.args.lemma.items merges rest c.len-2.result (length c.args.term.items) (omega arith) (c.in_ok-rest.ensures.steps old))
+    c.append.new.self.items
     c.in_ok-append.ensures.items after (subst (λ l. Takes rows (map (step_at old) l) after) c.deref.ensures.value c.in_ok-take_in_turn.ensures.taken)
 
 pub returns-clause-known : goal.returns-clause-known

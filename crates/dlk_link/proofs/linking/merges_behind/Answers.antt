@@ -39,5 +39,6 @@ returns-clause-joins g c = λ p last.
     let made = map (step_at (trees kernel.store)) c.in_ok-merges.merges.items in
     let m = c.args.lemma in
     let s = sequent_at (trees kernel.store) c.args.c.now in
-    subst (λ l. Joins s (length (facts trees kernel) + m) (length (facts trees kernel)) (length (facts trees kernel) + m) l made) (sym (c.goals.ensures.goals p at))
+    subst (λ l. Joins s (length (facts trees kernel) + m) (length (facts trees kernel)) (length (facts trees kernel) + m) l made)
+    (sym (c.goals.ensures.goals p at))
     (subst (λ n. Joins s (n + m) n (n + m) (map (sequent_at (trees kernel.store)) c.goals.result.now) made) count c.in_ok-merges.ensures.joins)

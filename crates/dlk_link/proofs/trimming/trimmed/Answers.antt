@@ -26,7 +26,8 @@ overflow_cast-same g c =
     let rows = facts g.S.Store.trees c.args.kernel.now in
     let term = map (step_at old) c.args.term.items in
     let one = g.met.S.Store.one_id c.rows.ensures.unique c.args.kernel.now.store in
-    let its = front term (map (step_at old) c.in_ok-kept.kept.items) rows c.in_ok-kept.same c.requires.taken (c.in_ok-kept.ensures.trimmed old one c.requires.known)
+    let its = front term (map (step_at old) c.in_ok-kept.kept.items) rows c.in_ok-kept.same c.requires.taken
+    (c.in_ok-kept.ensures.trimmed old one c.requires.known)
     in
     let within = its.few in
     omega (arith, within, take_length term rows c.requires.taken, taken_few term rows c.requires.taken)

@@ -21,7 +21,8 @@ pub elaborate-requires-clause-goal : goal.elaborate-requires-clause-goal
 elaborate-requires-clause-goal g c =
     let trees = g.S.Store.trees in
     goal_there (facts trees c.args.kernel.now) c.rows-fact.result c.args.goal
-    (c.rows-fact.ensures.count ∙ sym (length-map c.args.kernel.now.rows (provable_at (trees c.args.kernel.now.store)))) c.requires.ready.first c.requires.ready.room
+    (c.rows-fact.ensures.count ∙ sym (length-map c.args.kernel.now.rows (provable_at (trees c.args.kernel.now.store)))) c.requires.ready.first
+    c.requires.ready.room
 
 pub overflow_sub-result : goal.overflow_sub-result
 overflow_sub-result g c =
@@ -31,7 +32,8 @@ overflow_sub-result g c =
     let made = of_last old (facts trees c.elaborate.new.kernel) c.rows-fact.result c.args.goal (atom_at (trees c.args.kernel.now.store) c.args.atom.now)
     (map (step_at (trees c.elaborate.new.kernel.store)) c.in-Ok.made.steps.items) is c.in-Ok.ensures.made in
     (counted_as old (facts trees c.elaborate.new.kernel) c.args.goal (atom_at (trees c.args.kernel.now.store) c.args.atom.now)
-    (map (step_at (trees c.elaborate.new.kernel.store)) c.in-Ok.made.steps.items) c.goals_left-before.result c.goals_left-after.result c.requires.ready.first c.requires.ready.room made
+    (map (step_at (trees c.elaborate.new.kernel.store)) c.in-Ok.made.steps.items) c.goals_left-before.result c.goals_left-after.result c.requires.ready.first
+    c.requires.ready.room made
     c.goals_left-before.ensures.goals c.goals_left-after.ensures.goals).0
 
 pub returns-in_ok-append-in-Ok-clause-fate : goal.returns-in_ok-append-in-Ok-clause-fate
@@ -43,12 +45,15 @@ returns-in_ok-append-in-Ok-clause-fate g c =
     let atom = atom_at (trees c.args.kernel.now.store) c.args.atom.now in
     let steps = map (step_at (trees c.elaborate.new.kernel.store)) c.in-Ok.made.steps.items in
     let made = of_last old (facts trees c.elaborate.new.kernel) c.rows-fact.result c.args.goal atom steps is c.in-Ok.ensures.made in
-    let n = counted_as old (facts trees c.elaborate.new.kernel) c.args.goal atom steps c.goals_left-before.result c.goals_left-after.result c.requires.ready.first c.requires.ready.room made
+    let n = counted_as old (facts trees c.elaborate.new.kernel) c.args.goal atom steps c.goals_left-before.result c.goals_left-after.result
+    c.requires.ready.first c.requires.ready.room made
     c.goals_left-before.ensures.goals c.goals_left-after.ensures.goals in
     once_done atom c.args.goal c.args.trace.now.used (c.goals_left-after.result + 1 - c.goals_left-before.result) old (facts trees c.elaborate.new.kernel)
-    (map (step_at (trees c.args.kernel.now.store)) c.args.trace.now.steps.items) steps (map (step_at (trees c.elaborate.new.kernel.store)) c.append.new.into.items)
+    (map (step_at (trees c.args.kernel.now.store)) c.args.trace.now.steps.items) steps
+    (map (step_at (trees c.elaborate.new.kernel.store)) c.append.new.into.items)
     c.if-trace-ge-MOST_RUNS.false made n.1
-    (steps_more (trees c.args.kernel.now.store) (trees c.elaborate.new.kernel.store) keeps c.args.trace.now.steps.items c.in-Ok.made.steps.items c.append.new.into.items c.requires.ready.known c.in_ok-append-in-Ok.ensures)
+    (steps_more (trees c.args.kernel.now.store) (trees c.elaborate.new.kernel.store) keeps c.args.trace.now.steps.items c.in-Ok.made.steps.items
+    c.append.new.into.items c.requires.ready.known c.in_ok-append-in-Ok.ensures)
 
 pub returns-in_ok-append-in-Ok-clause-extends : goal.returns-in_ok-append-in-Ok-clause-extends
 returns-in_ok-append-in-Ok-clause-extends g c =
@@ -56,8 +61,10 @@ returns-in_ok-append-in-Ok-clause-extends g c =
     let keeps = g.met.S.Store.grows_keeps c.args.kernel.now.store c.elaborate.new.kernel.store c.elaborate.ensures.grows in
     record {
       rows = c.in-Ok.ensures.kept;
-      steps = ap (take (length c.args.trace.now.steps.items)) c.in_ok-append-in-Ok.ensures ∙ take-append_seam c.args.trace.now.steps.items c.in-Ok.made.steps.items;
-      known = known_more (trees c.args.kernel.now.store) (trees c.elaborate.new.kernel.store) keeps c.args.trace.now.steps.items c.in-Ok.made.steps.items c.append.new.into.items c.requires.ready.known c.in-Ok.ensures.known c.in_ok-append-in-Ok.ensures;
+      steps = ap (take (length c.args.trace.now.steps.items)) c.in_ok-append-in-Ok.ensures
+          ∙ take-append_seam c.args.trace.now.steps.items c.in-Ok.made.steps.items;
+      known = known_more (trees c.args.kernel.now.store) (trees c.elaborate.new.kernel.store) keeps c.args.trace.now.steps.items c.in-Ok.made.steps.items
+          c.append.new.into.items c.requires.ready.known c.in-Ok.ensures.known c.in_ok-append-in-Ok.ensures;
       counted = omega arith;
       within = omega (arith, c.if-trace-ge-MOST_RUNS.false);
     }
@@ -70,7 +77,8 @@ returns-in_ok-append-in-Ok-clause-left g c =
     let atom = atom_at (trees c.args.kernel.now.store) c.args.atom.now in
     let steps = map (step_at (trees c.elaborate.new.kernel.store)) c.in-Ok.made.steps.items in
     let made = of_last old (facts trees c.elaborate.new.kernel) c.rows-fact.result c.args.goal atom steps is c.in-Ok.ensures.made in
-    (counted_as old (facts trees c.elaborate.new.kernel) c.args.goal atom steps c.goals_left-before.result c.goals_left-after.result c.requires.ready.first c.requires.ready.room made
+    (counted_as old (facts trees c.elaborate.new.kernel) c.args.goal atom steps c.goals_left-before.result c.goals_left-after.result c.requires.ready.first
+    c.requires.ready.room made
     c.goals_left-before.ensures.goals c.goals_left-after.ensures.goals).1
 
 pub returns-in-Err-clause-fate : goal.returns-in-Err-clause-fate

@@ -9,14 +9,16 @@ use Rattle.dlk_strategy.specs.Runs.{Once, Done, Fails, Budget, main_goals, place
 use Rattle.dlk_strategy.specs.Ties.{now}
 use Rattle.dlk_strategy.proofs.States.{at_place}
 use Rattle.dlk_strategy.proofs.FixedAtoms.{placed_fixed, placed_fitting}
-use Rattle.dlk_strategy.proofs.Trying.{atom_same, atom_known, back_now, back_known, back_extends, back_then_back, leads_first, leads_on, leads_done, leads_over, leads_fail}
+use Rattle.dlk_strategy.proofs.Trying.{atom_same, atom_known, back_now, back_known, back_extends, back_then_back, leads_first, leads_on, leads_done}
+use Rattle.dlk_strategy.proofs.Trying.{leads_over, leads_fail}
 use Rattle.dlk_strategy.proofs.atoms.try_places.Goals as goal
 
 pub loop-place-init : goal.loop-place-init
 loop-place-init g c = record {
   grows = g.met.S.Store.grows_refl c.args.kernel.now.store;
   back = record { rows = record { ids = refl; provables = refl }; steps = refl; counted = omega arith; within = c.requires.ready.used };
-  leads = leads_first (atom_at (g.S.Store.trees c.args.kernel.now.store) c.args.atom.now) c.args.side c.args.goal (now g.S.Store.trees c.args.kernel.now c.args.trace.now);
+  leads = leads_first (atom_at (g.S.Store.trees c.args.kernel.now.store) c.args.atom.now) c.args.side c.args.goal
+      (now g.S.Store.trees c.args.kernel.now c.args.trace.now);
 }
 
 pub run_once-requires-clause-ready : goal.run_once-requires-clause-ready
@@ -49,7 +51,8 @@ run_once-requires-clause-fitting g c =
     let mid = c.loop-place.kernel in
     let keeps = g.met.S.Store.grows_keeps old.store mid.store c.loop-place.invariant.grows in
     let atom = atom_at (trees old.store) c.args.atom.now in
-    let e = c.in_ok-placed.ensures.made (trees mid.store) ∙ ap (placed (c.loop-place.place + 1)) (atom_same (trees old.store) (trees mid.store) keeps c.args.atom.now c.requires.known) in
+    let e = c.in_ok-placed.ensures.made (trees mid.store)
+    ∙ ap (placed (c.loop-place.place + 1)) (atom_same (trees old.store) (trees mid.store) keeps c.args.atom.now c.requires.known) in
     subst IsFitting (sym e) (placed_fitting (c.loop-place.place + 1) atom c.requires.fitting)
 
 pub run_once-requires-clause-fixed : goal.run_once-requires-clause-fixed
@@ -59,7 +62,8 @@ run_once-requires-clause-fixed g c =
     let mid = c.loop-place.kernel in
     let keeps = g.met.S.Store.grows_keeps old.store mid.store c.loop-place.invariant.grows in
     let atom = atom_at (trees old.store) c.args.atom.now in
-    let e = c.in_ok-placed.ensures.made (trees mid.store) ∙ ap (placed (c.loop-place.place + 1)) (atom_same (trees old.store) (trees mid.store) keeps c.args.atom.now c.requires.known) in
+    let e = c.in_ok-placed.ensures.made (trees mid.store)
+    ∙ ap (placed (c.loop-place.place + 1)) (atom_same (trees old.store) (trees mid.store) keeps c.args.atom.now c.requires.known) in
     subst HasNoLocator (sym e) (placed_fixed (c.loop-place.place + 1) atom)
 
 pub returns-in-Err-Budget-clause-fate : goal.returns-in-Err-Budget-clause-fate
@@ -69,12 +73,14 @@ returns-in-Err-Budget-clause-fate g c =
     let mid = c.loop-place.kernel in
     let keeps = g.met.S.Store.grows_keeps old.store mid.store c.loop-place.invariant.grows in
     let atom = atom_at (trees old.store) c.args.atom.now in
-    let e = c.in_ok-placed.ensures.made (trees mid.store) ∙ ap (placed (c.loop-place.place + 1)) (atom_same (trees old.store) (trees mid.store) keeps c.args.atom.now c.requires.known) in
+    let e = c.in_ok-placed.ensures.made (trees mid.store)
+    ∙ ap (placed (c.loop-place.place + 1)) (atom_same (trees old.store) (trees mid.store) keeps c.args.atom.now c.requires.known) in
     let found = at_place (main_goals (facts trees old)) c.args.goal c.requires.ready.first (omega (arith, c.requires.ready.room)) in
     let here = now trees mid c.loop-place.trace in
     let fate = rw c.in-Err-Budget.field-0-is at c.in-Err-Budget.ensures.fate in
     let once = subst (λ (a : Atom). Once a c.args.goal here (Budget c.in-Err-Budget.at)) e fate in
-    leads_over atom c.args.side c.args.goal c.loop-place.place c.places_on-places.result c.in-Err-Budget.at c.loop-place.why (now trees old c.args.trace.now) here found.0
+    leads_over atom c.args.side c.args.goal c.loop-place.place c.places_on-places.result c.in-Err-Budget.at c.loop-place.why (now trees old c.args.trace.now)
+    here found.0
     c.loop-place-test.true c.places_on-places.ensures found.1 once c.loop-place.invariant.leads
 
 pub returns-in-Ok-clause-fate : goal.returns-in-Ok-clause-fate
@@ -84,12 +90,14 @@ returns-in-Ok-clause-fate g c =
     let mid = c.loop-place.kernel in
     let keeps = g.met.S.Store.grows_keeps old.store mid.store c.loop-place.invariant.grows in
     let atom = atom_at (trees old.store) c.args.atom.now in
-    let e = c.in_ok-placed.ensures.made (trees mid.store) ∙ ap (placed (c.loop-place.place + 1)) (atom_same (trees old.store) (trees mid.store) keeps c.args.atom.now c.requires.known) in
+    let e = c.in_ok-placed.ensures.made (trees mid.store)
+    ∙ ap (placed (c.loop-place.place + 1)) (atom_same (trees old.store) (trees mid.store) keeps c.args.atom.now c.requires.known) in
     let found = at_place (main_goals (facts trees old)) c.args.goal c.requires.ready.first (omega (arith, c.requires.ready.room)) in
     let here = now trees mid c.loop-place.trace in
     let made = now trees c.run_once.new.kernel c.run_once.new.trace in
     let once = subst (λ (a : Atom). Once a c.args.goal here (Done made c.in-Ok.left)) e c.in-Ok.ensures.fate in
-    leads_done atom c.args.side c.args.goal c.loop-place.place c.places_on-places.result c.in-Ok.left c.loop-place.why (now trees old c.args.trace.now) here made found.0
+    leads_done atom c.args.side c.args.goal c.loop-place.place c.places_on-places.result c.in-Ok.left c.loop-place.why (now trees old c.args.trace.now) here
+    made found.0
     c.loop-place-test.true c.places_on-places.ensures found.1 once c.loop-place.invariant.leads
 
 pub loop-place-preserved : goal.loop-place-preserved
@@ -99,7 +107,8 @@ loop-place-preserved g c =
     let mid = c.loop-place.kernel in
     let keeps = g.met.S.Store.grows_keeps old.store mid.store c.loop-place.invariant.grows in
     let atom = atom_at (trees old.store) c.args.atom.now in
-    let e = c.in_ok-placed.ensures.made (trees mid.store) ∙ ap (placed (c.loop-place.place + 1)) (atom_same (trees old.store) (trees mid.store) keeps c.args.atom.now c.requires.known) in
+    let e = c.in_ok-placed.ensures.made (trees mid.store)
+    ∙ ap (placed (c.loop-place.place + 1)) (atom_same (trees old.store) (trees mid.store) keeps c.args.atom.now c.requires.known) in
     let here = now trees mid c.loop-place.trace in
     let used = c.run_once.new.trace.used in
     let fate = rw c.in-Err-Fails.field-0-is at c.in-Err-Fails.ensures.fate in
@@ -110,7 +119,8 @@ loop-place-preserved g c =
     record {
       grows = g.met.S.Store.grows_trans old.store mid.store c.run_once.new.kernel.store c.loop-place.invariant.grows c.run_once.ensures.grows;
       back = back_then_back trees old c.args.trace.now mid c.loop-place.trace c.run_once.new.kernel c.run_once.new.trace c.loop-place.invariant.back back;
-      leads = leads_on atom c.args.side c.args.goal c.loop-place.place c.places_on-places.result c.in-Err-Fails.field-0-0 used c.loop-place.why c.in-Err-Fails.last
+      leads = leads_on atom c.args.side c.args.goal c.loop-place.place c.places_on-places.result c.in-Err-Fails.field-0-0 used c.loop-place.why
+          c.in-Err-Fails.last
           (now trees old c.args.trace.now) here (now trees c.run_once.new.kernel c.run_once.new.trace) c.loop-place-test.true c.places_on-places.ensures once
           (back_now trees mid c.loop-place.trace c.run_once.new.kernel c.run_once.new.trace further known back) c.loop-place.invariant.leads;
     }
@@ -120,7 +130,8 @@ returns-clause-fate g c =
     let trees = g.S.Store.trees in
     let old = c.args.kernel.now in
     let found = at_place (main_goals (facts trees old)) c.args.goal c.requires.ready.first (omega (arith, c.requires.ready.room)) in
-    leads_fail (atom_at (trees old.store) c.args.atom.now) c.args.side c.args.goal c.loop-place.place c.places_on-places.result c.loop-place.why (now trees old c.args.trace.now)
+    leads_fail (atom_at (trees old.store) c.args.atom.now) c.args.side c.args.goal c.loop-place.place c.places_on-places.result c.loop-place.why
+    (now trees old c.args.trace.now)
     (now trees c.loop-place.kernel c.loop-place.trace) found.0 c.loop-place-test.false c.places_on-places.ensures found.1 c.loop-place.invariant.leads
 
 pub returns-clause-extends : goal.returns-clause-extends

@@ -85,7 +85,8 @@ loop-preserved g c =
     record {
       grows = g.met.S.Store.grows_trans old.store mid.store c.run_atom.new.kernel.store c.loop.invariant.grows c.run_atom.ensures.grows;
       reached = reached_on trees old c.args.trace.now mid c.loop.trace c.run_atom.new.kernel c.run_atom.new.trace i c.loop.left (i + 1) (c.loop.left + new)
-          1 new all rest fate next c.loop.invariant.reached is made c.in_ok-left.ensures.extends c.in_ok-left.ensures.left c.in_ok-left.ensures.few (omega arith);
+          1 new all rest fate next c.loop.invariant.reached is made c.in_ok-left.ensures.extends c.in_ok-left.ensures.left c.in_ok-left.ensures.few
+          (omega arith);
     }
 
 pub returns : goal.returns

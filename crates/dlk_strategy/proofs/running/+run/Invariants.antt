@@ -11,21 +11,24 @@ use Rattle.dlk_strategy.proofs.running.+run.Given as goal
 abbrev pub invariant-in_turn-loop-t : goal.invariant-in_turn-loop-t
 invariant-in_turn-loop-t g l = record {
   grows : g.S.Store.grows l.initial.kernel.store l.kernel.store;
-  reached : Reached g.S.Store.trees l.initial.kernel l.initial.trace l.kernel l.trace 1 l.goals (InTurn (tactics_of (g.S.Store.trees l.initial.kernel.store) l.parts) 1 l.goal)
+  reached : Reached g.S.Store.trees l.initial.kernel l.initial.trace l.kernel l.trace 1 l.goals
+      (InTurn (tactics_of (g.S.Store.trees l.initial.kernel.store) l.parts) 1 l.goal)
       (InTurn (tactics_of (g.S.Store.trees l.initial.kernel.store) (drop l.t-index l.parts)) l.goals l.goal);
 }
 
 abbrev pub invariant-branch-loop-t : goal.invariant-branch-loop-t
 invariant-branch-loop-t g l = record {
   grows : g.S.Store.grows l.initial.kernel.store l.kernel.store;
-  reached : Reached g.S.Store.trees l.initial.kernel l.initial.trace l.kernel l.trace l.t-index l.left (OnOwn (tactics_of (g.S.Store.trees l.initial.kernel.store) l.parts) l.goal 0)
+  reached : Reached g.S.Store.trees l.initial.kernel l.initial.trace l.kernel l.trace l.t-index l.left
+      (OnOwn (tactics_of (g.S.Store.trees l.initial.kernel.store) l.parts) l.goal 0)
       (OnOwn (tactics_of (g.S.Store.trees l.initial.kernel.store) (drop l.t-index l.parts)) l.goal l.left);
 }
 
 abbrev pub invariant-run_goals-loop : goal.invariant-run_goals-loop
 invariant-run_goals-loop g l = record {
   grows : g.S.Store.grows l.initial.kernel.store l.kernel.store;
-  reached : Reached g.S.Store.trees l.initial.kernel l.initial.trace l.kernel l.trace l.counter l.left (Each (on_one (tactic_at (g.S.Store.trees l.initial.kernel.store) l.t)) l.goals l.goal 0)
+  reached : Reached g.S.Store.trees l.initial.kernel l.initial.trace l.kernel l.trace l.counter l.left
+      (Each (on_one (tactic_at (g.S.Store.trees l.initial.kernel.store) l.t)) l.goals l.goal 0)
       (Each (on_one (tactic_at (g.S.Store.trees l.initial.kernel.store) l.t)) (l.goals - l.counter) l.goal l.left);
 }
 

@@ -33,7 +33,8 @@ few rows n e limited = let most : length (main_goals rows) ≤ most_goals = few_
 
 pub returns-clause-few : goal.returns-clause-few
 returns-clause-few g c =
-    few (map (provable_at (g.S.Store.trees c.args.kernel.now.store)) c.args.kernel.now.rows) (length c.goals.result.now) (returns-clause-goals g c) c.rows.ensures.limited
+    few (map (provable_at (g.S.Store.trees c.args.kernel.now.store)) c.args.kernel.now.rows) (length c.goals.result.now) (returns-clause-goals g c)
+    c.rows.ensures.limited
 
 pub overflow_cast-result : goal.overflow_cast-result
 overflow_cast-result g c = let most : length c.goals.result.now ≤ most_goals = returns-clause-few g c in omega (arith, most)
