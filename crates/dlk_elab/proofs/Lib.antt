@@ -8,8 +8,6 @@ pub mod Turns
 pub mod Names
 pub mod Fitting
 pub mod Sames
-pub mod Taken
-pub mod Rows
 pub mod TakenLaws
 pub mod Replacing
 pub mod FormsReplace

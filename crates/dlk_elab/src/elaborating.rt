@@ -16,12 +16,12 @@ use crate::boxes::{box_at, cut_trees, cutting_box, generalizing};
 use crate::calls::{Call, call_of};
 use crate::fault::TacFault;
 use crate::plan::{Target, plan};
-use crate::taking::take_in_turn;
 use crate::uses::use_axiom;
 use dlk_kernel::{Fact, Kernel};
 use dlk_rules::{Step, step_stays};
 use dlk_store::{Id, Steps, Store};
 use dlk_tacsyn::{Arg, Atom};
+use dlk_uses::take_in_turn;
 use std::alloc::Global;
 use std::sync::ledger::Ledger;
 

@@ -16,7 +16,6 @@ mod plan;
 mod same;
 mod spot;
 mod symbols;
-mod taking;
 mod uses;
 mod ways;
 

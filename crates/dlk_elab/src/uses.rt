@@ -23,7 +23,6 @@ use crate::instance::instance;
 use crate::keys::{matched, named_axiom};
 use crate::plan::Target;
 use crate::spot::Spot;
-use crate::taking::take_in_turn;
 use crate::ways::reach;
 use dlk_axioms::AxiomForm;
 use dlk_kernel::Kernel;
@@ -33,7 +32,7 @@ use dlk_sequent::laws::{spine_leads, spine_stays};
 use dlk_sequent::{Extra, Spine};
 use dlk_store::{Id, Steps, Store, StoreFault};
 use dlk_tacsyn::Atom;
-use dlk_uses::{uses_have_shapes, uses_rename_few};
+use dlk_uses::{take_in_turn, uses_have_shapes, uses_rename_few};
 use std::alloc::Global;
 use std::sync::ledger::Ledger;
 

@@ -11,3 +11,4 @@ pub mod Renamed
 pub mod Substituted
 pub mod Looked
 pub mod Starting
+pub mod RowsKept

@@ -17,11 +17,11 @@ ghost use Rattle.dlk_link.specs.Marks.{NamesFew};
 
 use crate::copies::behind;
 use crate::fault::LinkFault;
-use crate::taking::take_in_turn;
 use dlk_kernel::Kernel;
 use dlk_rules::{Step, step_stays};
 use dlk_sequent::{Sequent, Shared, same_sequent};
 use dlk_store::{Steps, Store};
+use dlk_uses::take_in_turn;
 use std::alloc::{AllocError, Global};
 use std::sync::ledger::Ledger;
 

@@ -1,5 +1,5 @@
 -- Where a use acts: what it wants of a formula, from the formula's own facts.
-use Rattle.std.proofs.Common.{◌≡◌, ℕ, suc, zero, ◌+◌, ◌≤◌, List, [], ◌∷◌, refl, sym, ap, ◌∙◌, arith, Some, false, true, Bool}
+use Rattle.std.proofs.Common.{◌≡◌, ℕ, suc, zero, ◌≤◌, List, [], ◌∷◌, refl, sym, ap, ◌∙◌, arith, Some, false, true, Bool}
 use Rattle.std.specs.Prelude.{◌&&◌}
 use Rattle.std.proofs.lemmas.Bool.{or_parts}
 use Rattle.dlk_tree.specs.declared.op.Op.{Op}
@@ -15,6 +15,7 @@ use Rattle.dlk_calculus.specs.Sequents.{IsFormula}
 use Rattle.dlk_calculus.proofs.PathLaws.{put_itself, put_there, put_made, put_sort, subtree_made, subtree_lacks, put_later, subtree_later}
 use Rattle.dlk_uses.proofs.Substituted.{pairs_of_ce, pairs_of_cq}
 use Rattle.dlk_derive.specs.Ways.{IsPlainWay}
+use Rattle.dlk_derive.proofs.InPlace.{put_size, put_depth}
 use Rattle.dlk_reach.proofs.Equivalence.{IsFine, Site}
 use Rattle.dlk_reach.proofs.Equation.{TermSite}
 use Rattle.dlk_reach.proofs.Formed.{formed_of}
@@ -34,27 +35,6 @@ module _ (test : Op → Bool) (new : Tree) (none : has test new ≡ false) where
     put_in_lacks (kid t rest) zero path lacks = let p = or_parts _ _ lacks in or_false (put_lacks t path p.0) p.1
     put_in_lacks (kid t rest) (suc n) path lacks =
         let p = or_parts _ _ lacks in ap (any_has test) (put_later t rest n path new) ∙ or_false p.0 (put_in_lacks rest n path p.1)
-
-module _ (new : Tree) where
-  mutual
-    pub put_size : (e : Tree) (path : List ℕ) → size (put_at e path new) ≤ size e + size new
-    put_size (node op kids) [] = omega arith
-    put_size (node op kids) (n ∷ path) = let h = put_in_size kids n path in omega (arith, h)
-
-    put_in_size : (kids : Forest) (n : ℕ) (path : List ℕ) → size_all (put_in kids n path new) ≤ size_all kids + size new
-    put_in_size no_kids n path = omega arith
-    put_in_size (kid t rest) zero path = let h = put_size t path in omega (arith, h)
-    put_in_size (kid t rest) (suc n) path = let h = put_in_size rest n path in let e = ap size_all (put_later t rest n path new) in omega (arith, h, e)
-
-  mutual
-    pub put_depth : (e : Tree) (path : List ℕ) → depth (put_at e path new) ≤ depth e + depth new
-    put_depth (node op kids) [] = omega arith
-    put_depth (node op kids) (n ∷ path) = let h = put_in_depth kids n path in omega (arith, h)
-
-    put_in_depth : (kids : Forest) (n : ℕ) (path : List ℕ) → depth_all (put_in kids n path new) ≤ depth_all kids + depth new
-    put_in_depth no_kids n path = omega arith
-    put_in_depth (kid t rest) zero path = let h = put_depth t path in omega (arith, h)
-    put_in_depth (kid t rest) (suc n) path = let h = put_in_depth rest n path in let e = ap depth_all (put_later t rest n path new) in omega (arith, h, e)
 
 -- ---- subtrees are smaller
 

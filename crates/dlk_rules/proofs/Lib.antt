@@ -2,6 +2,6 @@ pub mod OverIds
 mod KidsOf
 mod Quantified
 pub mod WordLaws
-mod StepsKept
+pub mod StepsKept
 pub mod SideLaws
 mod Renumbered

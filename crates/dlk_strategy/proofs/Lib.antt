@@ -3,7 +3,6 @@ mod Keeping
 mod TakenSteps
 mod TakenFormulas
 mod MainGoals
-mod StepsKept
 mod Walking
 mod Starting
 mod Begun

@@ -5,8 +5,8 @@ use Rattle.std.proofs.Math.Seq.{take-length}
 use Rattle.dlk_tree.specs.Trees.{Tree}
 use Rattle.dlk_calculus.specs.Limits.{most_goals}
 use Rattle.dlk_kernel.specs.Kernel.{State, facts, provable_at, ExtendsRows, SameRows}
+use Rattle.dlk_kernel.proofs.RowsKept.{rows_stay, rows_longer}
 use Rattle.dlk_elab.specs.declared.fault.FailWhy.{FailWhy}
-use Rattle.dlk_elab.proofs.Rows.{rows_stay, rows_longer}
 use Rattle.dlk_strategy.specs.declared.fault.RunFault.{RunFault}
 use Rattle.dlk_strategy.specs.declared.fault.RunFault.TheVariants as fault
 use Rattle.dlk_strategy.specs.declared.trace.Trace.{Trace}

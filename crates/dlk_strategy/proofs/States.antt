@@ -13,7 +13,7 @@ use Rattle.dlk_calculus.specs.Steps.{Step as TreeStep}
 use Rattle.dlk_calculus.proofs.PlaceLaws.{at_suc}
 use Rattle.dlk_rules.specs.declared.step.Step.{Step}
 use Rattle.dlk_rules.specs.Steps.{step_at, HasKnownIds}
-use Rattle.dlk_strategy.proofs.StepsKept.{step_known, step_same}
+use Rattle.dlk_rules.proofs.StepsKept.{step_known, step_same}
 use Rattle.dlk_kernel.specs.Kernel.{State, facts, provable_at, ExtendsRows, SameRows}
 use Rattle.dlk_tacsyn.specs.Tactics.{Atom}
 use Rattle.dlk_elab.specs.declared.fault.FailWhy.{FailWhy}

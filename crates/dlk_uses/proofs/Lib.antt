@@ -17,3 +17,4 @@ pub mod Renamed
 pub mod Uses
 pub mod Behind
 pub mod Goals
+pub mod InTurn

@@ -2,8 +2,8 @@ use Rattle.std.proofs.Common.{◌≡◌, Err, ap, map}
 use Rattle.dlk_rules.specs.Steps.{step_at}
 use Rattle.dlk_tacsyn.specs.Ties.{atom_at}
 use Rattle.dlk_kernel.specs.Kernel.{facts}
+use Rattle.dlk_kernel.proofs.RowsKept.{rows_back}
 use Rattle.dlk_elab.specs.declared.fault.TacFault.TheVariants.{Memory}
-use Rattle.dlk_elab.proofs.Rows.{rows_back}
 use Rattle.dlk_elab.proofs.Elaborates.{made_proper}
 use Rattle.dlk_elab.proofs.elaborating.elaborate.Goals as goal
 

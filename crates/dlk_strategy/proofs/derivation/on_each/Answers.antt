@@ -3,12 +3,12 @@ use Rattle.std.proofs.lemmas.Result.{err_from_is_err_and}
 use Rattle.dlk_tacsyn.specs.Tactics.{Atom}
 use Rattle.dlk_tacsyn.specs.Rows.{IsFitting}
 use Rattle.dlk_tacsyn.specs.Ties.{atom_at}
-use Rattle.dlk_elab.proofs.Rows.{rows_longer}
 use Rattle.dlk_strategy.specs.Runs.{Done, Fate, Then, Each, RunAtom}
 use Rattle.dlk_strategy.specs.Ties.{now, Becomes}
 use Rattle.dlk_strategy.proofs.Trying.{atom_same, atom_known}
 use Rattle.dlk_strategy.proofs.Reached.{reached_on, reached_err, reached_end, reached_ready, extends_err, each_next, each_none}
 use Rattle.dlk_strategy.proofs.derivation.on_each.Goals as goal
+use Rattle.dlk_kernel.proofs.RowsKept.{rows_longer}
 
 pub run_atom-requires-clause-ready : goal.run_atom-requires-clause-ready
 run_atom-requires-clause-ready g c =

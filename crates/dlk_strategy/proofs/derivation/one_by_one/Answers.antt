@@ -8,13 +8,13 @@ use Rattle.dlk_tacsyn.specs.Tactics.{Atom}
 use Rattle.dlk_tacsyn.specs.Ties.{atom_at, AtomIsKnown}
 use Rattle.dlk_tacsyn.specs.declared.tactic.Atom.{Atom as GivenAtom}
 use Rattle.dlk_tacsyn.proofs.Behind.{nil_of}
-use Rattle.dlk_elab.proofs.Rows.{rows_longer}
 use Rattle.dlk_strategy.specs.Runs.{Done, Fate, Then, OnEach, OneByOne, RunAtom}
 use Rattle.dlk_strategy.specs.Ties.{now, at_byte, Becomes}
 use Rattle.dlk_strategy.proofs.Trying.{atom_same, atom_known}
 use Rattle.dlk_strategy.proofs.Reached.{reached_first, reached_on, reached_err, reached_end, reached_ready, extends_err}
 use Rattle.dlk_strategy.proofs.Uses.{moved_fits}
 use Rattle.dlk_strategy.proofs.derivation.one_by_one.Goals as goal
+use Rattle.dlk_kernel.proofs.RowsKept.{rows_longer}
 
 pub loop-a-init : goal.loop-a-init
 loop-a-init g c =

@@ -19,7 +19,7 @@ use Rattle.dlk_store.specs.Stores.{Keeps}
 use Rattle.dlk_calculus.specs.Provables.{Provable}
 use Rattle.dlk_tacsyn.specs.Tactics as the
 use Rattle.dlk_library.proofs.Depths.{size_choice, size_sequence, size_branch}
-use Rattle.dlk_elab.proofs.Rows.{rows_longer}
+use Rattle.dlk_kernel.proofs.RowsKept.{rows_longer}
 
 pub choose-attempt-requires : goal.choose-attempt-requires
 choose-attempt-requires g t c κs within =

@@ -9,7 +9,7 @@ use Rattle.dlk_calculus.specs.Steps.{Adds, Fault}
 use Rattle.dlk_rules.specs.declared.step.Step.{Step}
 use Rattle.dlk_rules.specs.Steps.{step_at}
 use Rattle.dlk_kernel.specs.Taken.{Takes, more}
-use Rattle.dlk_elab.specs.Atoms.{FirstFault}
+use Rattle.dlk_uses.specs.Taking.{FirstFault}
 
 module _ (old new : List Tree) (plan : List Step) (i : ℕ) (s : Step) (less : i < length plan) (read : s ≡ get_or plan i s) (same : step_at new s ≡ step_at
     old s) where

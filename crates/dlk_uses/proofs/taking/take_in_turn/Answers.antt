@@ -4,9 +4,9 @@ use Rattle.dlk_rules.specs.Steps.{HasKnownIds}
 use Rattle.dlk_kernel.specs.Kernel.{facts}
 use Rattle.dlk_kernel.specs.Taken.{none}
 use Rattle.dlk_kernel.proofs.Limited.{fault_weaker}
-use Rattle.dlk_elab.proofs.Rows.{rows_stay, rows_longer}
-use Rattle.dlk_elab.proofs.Taken.{takes_next, fault_next}
-use Rattle.dlk_elab.proofs.taking.take_in_turn.Goals as goal
+use Rattle.dlk_kernel.proofs.RowsKept.{rows_stay, rows_longer}
+use Rattle.dlk_uses.proofs.InTurn.{takes_next, fault_next}
+use Rattle.dlk_uses.proofs.taking.take_in_turn.Goals as goal
 
 pub loop-step-init : goal.loop-step-init
 loop-step-init g c = record {

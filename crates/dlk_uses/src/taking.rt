@@ -4,7 +4,7 @@ ghost use Rattle.dlk_kernel.specs.Faults.{IsStepFault};
 ghost use Rattle.dlk_kernel.specs.Kernel.{facts, ExtendsRows};
 ghost use Rattle.dlk_kernel.specs.Taken.{Takes};
 ghost use Rattle.dlk_rules.specs.Steps.{step_at, HasKnownIds};
-ghost use Rattle.dlk_elab.specs.Atoms.{FirstFault};
+ghost use Rattle.dlk_uses.specs.Taking.{FirstFault};
 
 use dlk_kernel::{Kernel, StepFault};
 use dlk_rules::{Step, step_stays};
@@ -12,8 +12,12 @@ use dlk_store::{Steps, Store};
 use std::alloc::Global;
 use std::sync::ledger::Ledger;
 
-/// Takes steps in turn. Where one isn't taken, the rows of those before it stay.
-pub(crate) fn take_in_turn<S: Store, L: Ledger>(
+/// Takes steps in turn, as an atom's plan or a linked proof wants.
+///
+/// # Errors
+///
+/// The fault of the first step that the kernel doesn't take: the reason that it refuses it for, or want of memory. The rows of those before it stay.
+pub fn take_in_turn<S: Store, L: Ledger>(
     alloc: Global,
     kernel: &mut Kernel<S>,
     plan: &[Step],
