@@ -3,10 +3,11 @@
 
     python3 tools/copies.py [--least LINES] [FOLDER]
 
-A lemma or a definition is a signature with the clauses behind it; that one is public and another isn't makes no difference. For each that stands
-in several files of `crates/*/specs` and `crates/*/proofs` below the folder, or else of this checkout, a block is printed: how many lines could go,
-how many it has, how it begins, and below that each file, with `pub` where it is public there. Those with fewer lines than --least are left out.
-The last line has the sums. What files of code declare (`specs/declared`) is written by the toolchain, and isn't looked at.
+A lemma or a definition is a signature with the clauses behind it, at the left edge, in a module or behind `where`. That one is public and another
+isn't makes no difference, nor how far it is indented. For each that stands in several files of `crates/*/specs` and `crates/*/proofs` below the
+folder, or else of this checkout, a block is printed: how many lines could go, how many it has, how it begins, and below that each file, with `pub`
+where it is public there. Those with fewer lines than --least are left out, and so is what is part of a longer copy. The last line has the sums. What
+files of code declare (`specs/declared`) is written by the toolchain, and isn't looked at.
 
 A copy goes by making it public in the lowest crate that has it and importing it in the others. Answers to the goals of a function, as `returns`, and
 its invariants aren't looked at, since each file has its own; names in examples are, and may stay.
@@ -20,43 +21,56 @@ from pathlib import Path
 from typing import NamedTuple
 
 TOP = Path(__file__).resolve().parent.parent
-SIGNATURE = re.compile(r"(?:(?:pub|abbrev) )*([A-Za-z_][\w'-]*)\s*:\s")
-PUBLIC = re.compile(r"^(abbrev )?pub ")
-OWN = re.compile(r".* : goal\.|abbrev pub (?:invariant|decreases)-")
+SIGNATURE = re.compile(r"( *)(?:(?:pub|abbrev) )*([A-Za-z_][\w'-]*)\s*:\s")
+PUBLIC = re.compile(r"^( *(?:abbrev )?)pub ")
+OWN = re.compile(r" *.* : goal\.|abbrev pub (?:invariant|decreases)-")
 
 
 class Place(NamedTuple):
-    """Where a lemma or a definition stands, and whether it is public there."""
+    """Where a lemma or a definition stands, from which line to which, and whether it is public there."""
 
     file: Path
+    first: int
+    last: int
     public: bool
+
+    def is_in(self, other):
+        """Whether it is a part of another one."""
+        return self.file == other.file and other.first <= self.first and self.last <= other.last and self != other
+
+
+def belongs(line, depth, name):
+    """Whether a line is one of a lemma of this name that stands so far to the right."""
+    return line.startswith(" " * (depth + 1)) or line[depth:].split(" ")[0] == name and not line[:depth].strip()
 
 
 def blocks(text):
-    """Each lemma and definition of a file that stands at its left edge, but for what belongs to a goal: its signature and clauses, and whether it
-    is public."""
+    """Each lemma and definition of a file, but for what belongs to a goal: its signature and clauses, the first and the last line, and whether it is
+    public."""
     lines = text.split("\n")
-    at = 0
-    while at < len(lines):
-        head = SIGNATURE.match(lines[at])
-        end = at + 1
-        if head:
-            while end < len(lines) and (lines[end].startswith(" ") or lines[end].split(" ")[0] == head[1]):
-                end += 1
-            if not OWN.match(lines[at]):
-                yield PUBLIC.sub(r"\1", "\n".join(lines[at:end])), bool(PUBLIC.match(lines[at]))
-        at = end
+    for at, line in enumerate(lines):
+        head = SIGNATURE.match(line)
+        if not head or OWN.match(line):
+            continue
+        depth, end = len(head[1]), at + 1
+        while end < len(lines) and belongs(lines[end], depth, head[2]):
+            end += 1
+        if any(clause[depth:].split(" ")[0] == head[2] for clause in lines[at + 1 : end]):
+            text = "\n".join(it[depth:] for it in [PUBLIC.sub(r"\1", line), *lines[at + 1 : end]])
+            yield text, at, end, bool(PUBLIC.match(line))
 
 
 def copies(folder):
-    """What stands in several files below a folder, each with its places."""
+    """What stands in several files below a folder, each with its places, but for what is part of a longer one."""
     found = defaultdict(list)
     for part in ("specs", "proofs"):
         for file in sorted(folder.glob(f"crates/*/{part}/**/*.antt")):
             if "declared" not in file.parts:
-                for block, public in blocks(file.read_text()):
-                    found[block].append(Place(file.relative_to(folder), public))
-    return {block: places for block, places in found.items() if len(places) > 1}
+                for block, first, last, public in blocks(file.read_text()):
+                    found[block].append(Place(file.relative_to(folder), first, last, public))
+    several = {block: places for block, places in found.items() if len({place.file for place in places}) > 1}
+    longer = [place for places in several.values() for place in places]
+    return {block: places for block, places in several.items() if not all(any(place.is_in(it) for it in longer) for place in places)}
 
 
 def saving(block, places):

@@ -27,3 +27,8 @@ pub few_goals : (rows : List Provable) → All IsLimited rows → length (main_g
 few_goals [] h = omega arith
 few_goals (q ∷ []) h = (All-head IsLimited q [] h).few_goals
 few_goals (q ∷ (r ∷ rows)) h = few_goals (r ∷ rows) (All-tail IsLimited q (r ∷ rows) h)
+
+-- where the last of some items is, there are some
+pub some_items : {A : Type 0} (items : List A) (x : A) → At items (length items) x → 1 ≤ length items
+some_items [] x h = absurd (cc h)
+some_items (y ∷ items) x h = omega arith

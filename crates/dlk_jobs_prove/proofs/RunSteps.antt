@@ -1,5 +1,5 @@
 -- The steps of a run are as many as its rows, of which the last shows the formula.
-use Rattle.std.proofs.Common.{◌≡◌, ◌∙◌, ◌≤◌, ◌+◌, ℕ, List, [], ◌∷◌, length, sym, ap, arith}
+use Rattle.std.proofs.Common.{◌≡◌, ◌∙◌, ◌≤◌, ◌+◌, ℕ, length, sym, ap}
 use Rattle.dlk_tree.specs.Trees.{Tree}
 use Rattle.dlk_calculus.specs.Places.{At}
 use Rattle.dlk_calculus.specs.Provables.{Provable}
@@ -9,14 +9,11 @@ use Rattle.dlk_strategy.specs.Runs.{Progress, Done, RunsModel}
 use Rattle.dlk_jobs_check.specs.Terms.{proves}
 use Rattle.dlk_jobs_record.proofs.TakenRows.{taken_count}
 use Rattle.dlk_jobs_prove.proofs.StrategyLaws.{RunsTaken, RunsShow}
+use Rattle.dlk_elab.proofs.MainGoals.{some_items}
 
 pub run_count : RunsTaken → (strategy : Tactic) (formula : Tree) (made : Progress) (left : ℕ) → RunsModel strategy formula (Done made left) →
     length made.steps ≡ length made.rows
 run_count runs_taken strategy formula made left r = taken_count made.steps made.rows (runs_taken strategy formula made left r)
-
-some_items : {A : Type 0} (items : List A) (x : A) → At items (length items) x → 1 ≤ length items
-some_items [] x h = absurd (cc h)
-some_items (y ∷ items) x h = omega arith
 
 pub some_rows : RunsShow → (strategy : Tactic) (formula : Tree) (made : Progress) (left : ℕ) → RunsModel strategy formula (Done made left) →
     1 ≤ length made.rows

@@ -22,10 +22,7 @@ use Rattle.dlk_jobs_record.specs.Records.{Records, IsLast}
 use Rattle.dlk_jobs_record.proofs.OneRecord.{one_record}
 use Rattle.dlk_jobs_record.proofs.TakenRows.{taken_count}
 use Rattle.dlk_jobs_terms.specs.Made.{RecordsLast}
-
-some_items : {A : Type 0} (items : List A) (x : A) → At items (length items) x → 1 ≤ length items
-some_items [] x h = absurd (cc h)
-some_items (y ∷ items) x h = omega arith
+use Rattle.dlk_elab.proofs.MainGoals.{some_items}
 
 -- what stands at the last place is the last
 pub last_is : (rows : List Provable) (p : Provable) → At rows (length rows) p → IsLast rows p

@@ -137,7 +137,7 @@ module _ (old new : List Tree) (keeps : Keeps old new) where
   arguments_known all k = all_still (ArgumentIsKnown old) (ArgumentIsKnown new) argument_known all k
 
   mutual
-    tactic_kept : (t : Tactic) → TacticIsKnown old t → tactic_at new t ≡ tactic_at old t
+    pub tactic_kept : (t : Tactic) → TacticIsKnown old t → tactic_at new t ≡ tactic_at old t
     tactic_kept (Choice' shape all) k = ap (λ ts. the.Choice ts) (row_kept _ all k)
     tactic_kept (Seq' shape all) k = ap (λ ts. the.Sequence ts) (row_kept _ all k)
     tactic_kept (Branch' at shape all) k = ap (λ ts. the.Branch at ts) (row_kept _ all k)
@@ -149,7 +149,7 @@ module _ (old new : List Tree) (keeps : Keeps old new) where
     row_kept n (more_of-Tactic t rest) k = λ i. part (tactic_kept t k.0 i) (row_kept _ rest k.1 i)
 
   mutual
-    tactic_known : (t : Tactic) → TacticIsKnown old t → TacticIsKnown new t
+    pub tactic_known : (t : Tactic) → TacticIsKnown old t → TacticIsKnown new t
     tactic_known (Choice' shape all) k = row_known _ all k
     tactic_known (Seq' shape all) k = row_known _ all k
     tactic_known (Branch' at shape all) k = row_known _ all k
