@@ -56,8 +56,8 @@ def blocks(text):
         while end < len(lines) and belongs(lines[end], depth, head[2]):
             end += 1
         if any(clause[depth:].split(" ")[0] == head[2] for clause in lines[at + 1 : end]):
-            text = "\n".join(it[depth:] for it in [PUBLIC.sub(r"\1", line), *lines[at + 1 : end]])
-            yield text, at, end, bool(PUBLIC.match(line))
+            block = "\n".join(it[depth:] for it in [PUBLIC.sub(r"\1", line), *lines[at + 1 : end]])
+            yield block, at, end, bool(PUBLIC.match(line))
 
 
 def copies(folder):
