@@ -1,5 +1,5 @@
 -- What a command has done where it has answered something.
-use Rattle.std.proofs.Common.{◌≡◌, ◌<◌, ◌⊎◌, ℕ, List, ◌∷◌, None, Some, refl, sym, ap, subst, ◌∙◌, inl, inr, arith}
+use Rattle.std.proofs.Common.{◌≡◌, ◌<◌, ◌⊎◌, ℕ, List, None, Some, refl, sym, ap, subst, ◌∙◌, inl, inr, arith}
 use Rattle.dlk_desk.specs.Outside.{Files}
 use Rattle.dlk_replies.specs.declared.command.Command.{Command}
 use Rattle.dlk_replies.specs.Forms.{Word, command_of, inputs_of, others_of}

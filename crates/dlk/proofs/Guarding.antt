@@ -1,5 +1,5 @@
 -- What `guard` prints of an accepted term: whether its lines are guarded, and its report.
-use Rattle.std.proofs.Common.{◌≡◌, ◌<◌, ℕ, List, [], ◌∷◌, length, get_or, None, Some, refl, sym, ap, subst, ◌∙◌, arith}
+use Rattle.std.proofs.Common.{◌≡◌, ◌<◌, ℕ, List, [], ◌∷◌, length, get_or, refl, sym, ap, subst, ◌∙◌, arith}
 use Rattle.std.proofs.lemmas.List.{append_cancel_left}
 use Rattle.dlk_calculus.specs.Provables.{Provable}
 use Rattle.dlk_desk.specs.Outside.{Outside}

@@ -1,5 +1,5 @@
 -- What `session` has printed and written.
-use Rattle.std.proofs.Common.{◌≡◌, ◌↔◌, ◌<◌, ◌≤◌, ℕ, List, [], ◌∷◌, length, Option, Some, None, refl, sym, ap, subst, ◌∙◌, arith}
+use Rattle.std.proofs.Common.{◌≡◌, ◌↔◌, ◌<◌, ◌≤◌, ℕ, List, [], ◌∷◌, length, Option, Some, None, refl, sym, subst, ◌∙◌, arith}
 use Rattle.dlk_calculus.specs.Steps.{Step}
 use Rattle.dlk_desk.specs.Outside.{Outside, SameFiles}
 use Rattle.dlk_elab.specs.Outcomes.{main_goals}
@@ -11,10 +11,10 @@ use Rattle.dlk_replies.specs.declared.reply.Layout.TheVariants.{Text}
 use Rattle.dlk_replies.specs.Forms.{Word, others_of, limit_of}
 use Rattle.dlk_replies.specs.Inputs.{output}
 use Rattle.dlk_replies.specs.Replies.{Reply, code_of}
-use Rattle.dlk_session.specs.Sessions.{State, Answer}
+use Rattle.dlk_session.specs.Sessions.{State}
 use Rattle.dlk_jobs_check.specs.Checks.{status_of, reported}
 use Rattle.dlk_jobs_session.specs.Saved.{IsChecked}
-use Rattle.dlk_jobs_session.specs.Sessions.{Plays, played, Sessions, bad_model, bad_line, too_long, keeps_none, writes}
+use Rattle.dlk_jobs_session.specs.Sessions.{played, Sessions, bad_model, bad_line, too_long, keeps_none, writes}
 use Rattle.dlk_answers.specs.Answers.{Does}
 use Rattle.dlk_answers.proofs.OneReply.{none_or_some}
 use Rattle.dlk.specs.Outputs.{Output, output_with, after}

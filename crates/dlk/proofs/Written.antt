@@ -1,21 +1,16 @@
 -- What a command has written of a model is accepted by `check`.
-use Rattle.std.proofs.Common.{◌≡◌, ◌<◌, ◌++◌, ℕ, List, [], ◌∷◌, Some, refl, sym, ap, subst, ◌∙◌, inl, inr, arith}
+use Rattle.std.proofs.Common.{◌≡◌, ◌<◌, ◌++◌, ℕ, List, [], ◌∷◌, Some, refl, sym, subst, ◌∙◌, inl, inr, arith}
 use Rattle.std.proofs.lemmas.List.{append_cancel_left}
-use Rattle.dlk_desk.specs.Outside.{Outside, SameFiles}
+use Rattle.dlk_desk.specs.Outside.{Outside}
 use Rattle.dlk_replies.specs.declared.command.Command.{Command}
 use Rattle.dlk_replies.specs.declared.command.Command.TheVariants.{Prove}
 use Rattle.dlk_replies.specs.declared.form.Role.{Role}
 use Rattle.dlk_replies.specs.declared.form.Role.TheVariants.{Strategy}
-use Rattle.dlk_replies.specs.declared.reply.Layout.TheVariants.{Text}
-use Rattle.dlk_replies.specs.declared.reply.Showing.TheVariants.{Reported}
 use Rattle.dlk_replies.specs.Forms.{Word, command_of}
 use Rattle.dlk_replies.specs.Replies.{Reply, code_of, printing}
-use Rattle.dlk_jobs_check.specs.Checks.{Checks}
 use Rattle.dlk_answers.specs.Answers.{Does}
-use Rattle.dlk.specs.Answers.{Answers}
-use Rattle.dlk.specs.Outputs.{after}
-use Rattle.dlk.specs.Runs.{output_to, GivesWhole}
-use Rattle.dlk.specs.Headline.{Writes, WritesTerm, IsAccepted, ProvesTruly}
+use Rattle.dlk.specs.Runs.{GivesWhole}
+use Rattle.dlk.specs.Headline.{WritesTerm, IsAccepted, ProvesTruly}
 use Rattle.dlk.proofs.Short.{ReadsModel, model_within}
 use Rattle.dlk.proofs.Writing.{EachIsChecked, WritesChecked, file_holds, proved_writes, refused_or_written}
 

@@ -1,18 +1,17 @@
 -- What `convert`, `link` and `trim` have written.
-use Rattle.std.proofs.Common.{◌≡◌, ◌↔◌, ◌<◌, ℕ, List, [], ◌∷◌, length, Some, refl, sym, ap, subst, ◌∙◌, arith}
+use Rattle.std.proofs.Common.{◌≡◌, ◌↔◌, ◌<◌, ℕ, List, [], ◌∷◌, Some, refl, sym, ap, subst, arith}
 use Rattle.dlk_calculus.specs.Provables.{Provable}
 use Rattle.dlk_calculus.specs.Steps.{Step}
 use Rattle.dlk_calculus.proofs.Leaves.{Derives-leaves}
 use Rattle.dlk_desk.specs.Outside.{Outside}
 use Rattle.dlk_recorder.specs.Terms.{term_text}
-use Rattle.dlk_report.specs.Reports.{is_closed, text_report}
+use Rattle.dlk_report.specs.Reports.{is_closed}
 use Rattle.dlk_replies.specs.declared.command.Command.TheVariants.{Convert, Link, Trim}
 use Rattle.dlk_replies.specs.declared.form.Role.TheVariants.{Term, Lemma}
-use Rattle.dlk_replies.specs.declared.reply.Layout.TheVariants.{Text}
 use Rattle.dlk_replies.specs.Forms.{Word, others_of}
 use Rattle.dlk_replies.specs.Replies.{Reply, code_of}
-use Rattle.dlk_jobs_check.specs.Terms.{Accepts, Replays}
-use Rattle.dlk_jobs_check.specs.Checks.{status_of, reported}
+use Rattle.dlk_jobs_check.specs.Terms.{Accepts}
+use Rattle.dlk_jobs_check.specs.Checks.{status_of}
 use Rattle.dlk_jobs_check.proofs.OneTerm.{one_end}
 use Rattle.dlk_jobs_record.specs.Records.{Records, too_long, writes, IsWritten}
 use Rattle.dlk_jobs_terms.specs.Converts.{Converts, bad_line, records as conversion, IsConverted as IsConvertedBy}
@@ -20,8 +19,7 @@ use Rattle.dlk_jobs_terms.specs.Links.{Links, IsJoined}
 use Rattle.dlk_jobs_terms.specs.Trims.{Trims, IsTrimmed as IsTrimmedBy}
 use Rattle.dlk_answers.specs.Answers.{Does}
 use Rattle.dlk.specs.Runs.{GivesWhole}
-use Rattle.dlk.specs.Headline.{Writes, IsAccepted}
-use Rattle.dlk.specs.WrittenTerms.{IsConverted, ConvertsTruly, IsLinked, LinksTruly, IsTrimmed, TrimsTruly}
+use Rattle.dlk.specs.WrittenTerms.{IsConverted, ConvertsTruly, LinksTruly, TrimsTruly}
 use Rattle.dlk.proofs.Done.{response, is_done}
 use Rattle.dlk.proofs.Truly.{accepted_derived}
 use Rattle.dlk.proofs.Judged.{closed_is_zero}

@@ -10,7 +10,7 @@ use Rattle.dlk_replay.specs.Files.{Verdict, bad, file_lines, FileSteps}
 use Rattle.dlk_replay.specs.declared.fault.LineWhy.{LineWhy}
 use Rattle.dlk_report.specs.Reports.{text_report}
 use Rattle.dlk_replies.specs.declared.command.Command.{Command}
-use Rattle.dlk_replies.specs.declared.command.Command.TheVariants.{Check, Print, Vars, Subst, Report, Smt, Guard, Prove, Gen, Convert, Link, Trim, Session}
+use Rattle.dlk_replies.specs.declared.command.Command.TheVariants.{Check, Report, Guard, Prove, Link, Trim}
 use Rattle.dlk_replies.specs.declared.reply.Layout.{Layout}
 use Rattle.dlk_replies.specs.declared.reply.Layout.TheVariants.{Text, Json}
 use Rattle.dlk_replies.specs.declared.reply.Showing.TheVariants.{Reported}

@@ -1,5 +1,5 @@
 -- There is one answer to a model and a strategy.
-use Rattle.std.proofs.Common.{◌≡◌, ℕ, List, refl, sym, ap, subst, ◌∙◌, arith}
+use Rattle.std.proofs.Common.{◌≡◌, ℕ, List, refl, sym, ap, subst, ◌∙◌}
 use Rattle.dlk_tree.specs.Trees.{Tree}
 use Rattle.dlk_calculus.specs.Provables.{Provable}
 use Rattle.dlk_grammar.specs.declared.token.Dots.TheVariants.{Refused}

@@ -1,5 +1,5 @@
 -- From what reading, running and recording a strategy answer to what `prove` answers.
-use Rattle.std.proofs.Common.{◌≡◌, ◌<◌, ◌≤◌, ℕ, List, length, map, Some, Result, Ok, Err, sym, subst, ap, ◌∙◌, inl, inr}
+use Rattle.std.proofs.Common.{◌≡◌, ◌≤◌, ℕ, List, length, map, Result, Ok, Err, sym, subst, ap, ◌∙◌, inl, inr}
 use Rattle.std.specs.Prelude.{IfErr}
 use Rattle.std.proofs.lemmas.List.{length-map}
 use Rattle.dlk_tree.specs.Trees.{Tree}

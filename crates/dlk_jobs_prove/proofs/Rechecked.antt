@@ -1,5 +1,5 @@
 -- What `prove` writes is accepted by `check`, which answers the same.
-use Rattle.std.proofs.Common.{◌≡◌, ◌≤◌, ℕ, List, [], length, None, Some, refl}
+use Rattle.std.proofs.Common.{◌≡◌, ◌≤◌, ℕ, List, length, None, Some, refl}
 use Rattle.dlk_calculus.specs.Provables.{Provable}
 use Rattle.dlk_tacsyn.specs.Faults.{Fault, Syntax, Nesting, Repeat, UnknownAtom, Arguments}
 use Rattle.dlk_strategy.specs.Runs.{Progress, Done}

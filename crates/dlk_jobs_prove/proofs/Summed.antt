@@ -1,5 +1,5 @@
 -- `gen` is done or refuses, and sums up the proof that `prove` reports.
-use Rattle.std.proofs.Common.{◌≡◌, ◌⊎◌, ℕ, List, length, None, Some, refl, sym, ap, ◌∙◌, subst, inl, inr}
+use Rattle.std.proofs.Common.{◌≡◌, ◌⊎◌, ℕ, List, length, None, Some, refl, sym, ◌∙◌, subst, inl, inr}
 use Rattle.dlk_calculus.specs.Provables.{Provable}
 use Rattle.dlk_calculus.specs.Steps.{Step}
 use Rattle.dlk_tacsyn.specs.Faults.{Fault, Syntax, Nesting, Repeat, UnknownAtom, Arguments}
@@ -7,7 +7,7 @@ use Rattle.dlk_library.specs.Generated.{generated_model, generated_strategy}
 use Rattle.dlk_replies.specs.declared.form.Role.TheVariants.{Model}
 use Rattle.dlk_replies.specs.declared.reply.Showing.TheVariants.{Summed}
 use Rattle.dlk_replies.specs.declared.reply.Status.TheVariants.{Done}
-use Rattle.dlk_replies.specs.Replies.{Reply, printing}
+use Rattle.dlk_replies.specs.Replies.{Reply}
 use Rattle.dlk_jobs_check.specs.Checks.{Checks, refuses as refuses_term, reports, summed}
 use Rattle.dlk_jobs_record.specs.Records.{Records, too_long, writes}
 use Rattle.dlk_jobs_prove.specs.Proves.{Proves, bad_model, bad_strategy, fails, spent, records, strategy_refused}

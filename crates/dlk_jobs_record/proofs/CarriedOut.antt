@@ -1,5 +1,5 @@
 -- What is answered by a command that writes a term is carried out.
-use Rattle.std.proofs.Common.{◌≡◌, ℕ, Bool, true, false, List, arith}
+use Rattle.std.proofs.Common.{◌≡◌, Bool, true, false, List, arith}
 use Rattle.dlk_calculus.specs.Provables.{Provable}
 use Rattle.dlk_calculus.specs.Steps.{Step}
 use Rattle.dlk_report.specs.Reports.{is_closed}

@@ -6,10 +6,8 @@ use Rattle.dlk_calculus.specs.Steps.{Step}
 use Rattle.dlk_report.specs.Reports.{is_closed}
 use Rattle.dlk_recorder.specs.Terms.{term_text}
 use Rattle.dlk_replies.specs.declared.form.Role.TheVariants.{Term}
-use Rattle.dlk_replies.specs.declared.reply.Status.TheVariants.{Refused}
 use Rattle.dlk_replies.specs.Forms.{limit_of}
 use Rattle.dlk_replies.specs.Replies.{Reply, code_of}
-use Rattle.dlk_jobs_check.specs.Checks.{status_of}
 use Rattle.dlk_jobs_record.specs.Records.{term_too_long, recorded, Records, too_long, writes, WritesUnlessRefused}
 use Rattle.dlk_jobs_record.proofs.CarriedOut.{no_refusal}
 

@@ -1,5 +1,5 @@
 -- What the commands write is accepted, and shows what it must.
-use Rattle.std.proofs.Common.{◌≡◌, ◌∙◌, ◌≤◌, ℕ, ◌+◌, List, [], ◌∷◌, ◌++◌, length, map, None, Some, refl, sym, ap, subst, arith}
+use Rattle.std.proofs.Common.{◌≡◌, ◌∙◌, ◌≤◌, ℕ, ◌+◌, List, [], ◌∷◌, ◌++◌, length, map, None, Some, refl, sym, subst, arith}
 use Rattle.std.specs.List.{All}
 use Rattle.std.proofs.lemmas.List.Elements.{All-nil, All-cons, All-head, All-tail, All-append}
 use Rattle.dlk_calculus.specs.Places.{At}
@@ -18,17 +18,16 @@ use Rattle.dlk_replies.specs.declared.form.Role.TheVariants.{Model, Term}
 use Rattle.dlk_replies.specs.declared.reply.Layout.TheVariants.{Text}
 use Rattle.dlk_replies.specs.declared.reply.Showing.TheVariants.{Reported}
 use Rattle.dlk_replies.specs.Forms.{limit_of}
-use Rattle.dlk_replies.specs.Refusals.{text_refused}
 use Rattle.dlk_replies.specs.Replies.{Reply, printing}
 use Rattle.dlk_replies.proofs.CarriedOut.{text_unwritten}
 use Rattle.dlk_rules.specs.Facts.{renumbered}
 use Rattle.dlk_jobs_check.specs.Checks.{Checks}
-use Rattle.dlk_jobs_check.specs.Terms.{Replays, TakesTerm, RefusesTerm, bad_model, bad_line as bad_term_line, bad_conclusion}
-use Rattle.dlk_jobs_record.specs.Records.{Records, IsLast}
+use Rattle.dlk_jobs_check.specs.Terms.{Replays, RefusesTerm, bad_model, bad_line as bad_term_line, bad_conclusion}
+use Rattle.dlk_jobs_record.specs.Records.{Records}
 use Rattle.dlk_jobs_record.proofs.TakenRows.{taken_count, some_steps}
 use Rattle.dlk_jobs_record.proofs.Written.{RecordedIsWritten, written_is_checked}
 use Rattle.dlk_jobs_terms.specs.Converts.{Converts, bad_line, records as writes_anew, IsConverted}
-use Rattle.dlk_jobs_terms.specs.Links.{LinksSteps, no_goal, past_limit, records, Links, refuses, bad_lemma, links, IsJoined}
+use Rattle.dlk_jobs_terms.specs.Links.{no_goal, past_limit, records, Links, refuses, bad_lemma, links, IsJoined}
 use Rattle.dlk_jobs_terms.specs.Trims.{Trims as TrimsTerm, refuses as refuses_term, trims, IsTrimmed}
 use Rattle.dlk_jobs_terms.proofs.EndLaws.{SaysSteps, KeptShows, last_is, one_ending, replay_takes, replay_last}
 

@@ -1,5 +1,5 @@
 -- What the commands answer is carried out, and it writes a term unless it is a refusal.
-use Rattle.std.proofs.Common.{◌≡◌, ℕ, List, refl, inl, arith}
+use Rattle.std.proofs.Common.{ℕ, List, refl, inl, arith}
 use Rattle.dlk_calculus.specs.Provables.{Provable}
 use Rattle.dlk_calculus.specs.Steps.{Step}
 use Rattle.dlk_replies.specs.Replies.{Reply}

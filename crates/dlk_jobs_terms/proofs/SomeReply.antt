@@ -14,8 +14,7 @@ use Rattle.dlk_replay.specs.Files.{file_lines, accepted, bad, Verdict, Answer}
 use Rattle.dlk_replay.specs.declared.fault.LineWhy.{LineWhy}
 use Rattle.dlk_replay.proofs.Verdicts.{some_verdict, accepted_some}
 use Rattle.dlk_replies.specs.Replies.{Reply}
-use Rattle.dlk_uses.specs.Taking.{FirstFault}
-use Rattle.dlk_jobs_check.specs.Terms.{line_refused, Accepts, Replays, TakesTerm}
+use Rattle.dlk_jobs_check.specs.Terms.{line_refused, Accepts, Replays}
 use Rattle.dlk_jobs_check.proofs.Ends.{last_of}
 use Rattle.dlk_jobs_check.proofs.OneTerm.{replays, some_judgement}
 use Rattle.dlk_jobs_record.proofs.OneRecord.{some_record}

@@ -18,7 +18,7 @@ use Rattle.dlk_calculus.specs.Notation.{leaf, eq, f, g, p_of}
 use Rattle.dlk_calculus.specs.Pairs.{Pair, IsWellFormed, IsFreeIn}
 use Rattle.dlk_calculus.specs.Paths.{subtree, put_at}
 use Rattle.dlk_calculus.specs.Places.{At}
-use Rattle.dlk_calculus.specs.Provables.{Provable, started, assumed, inferred, AreNew, Substitutes}
+use Rattle.dlk_calculus.specs.Provables.{Provable, started, assumed, inferred, AreNew}
 use Rattle.dlk_calculus.specs.Provables as pr
 use Rattle.dlk_calculus.specs.Rules.{CutR, imply, equiv}
 use Rattle.dlk_calculus.specs.Sequents.{Sequent, alone_right, IsFormula}

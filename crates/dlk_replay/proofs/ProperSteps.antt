@@ -1,5 +1,5 @@
 -- The step that a line says is a proper one, and what its pairs replace are symbols.
-use Rattle.std.proofs.Common.{◌≡◌, ℕ, ◌+◌, Bool, true, false, List, [], ◌∷◌, ◌++◌, length, ap, subst, inl, inr, ◌⊎◌}
+use Rattle.std.proofs.Common.{◌≡◌, ℕ, ◌+◌, Bool, true, false, List, [], ◌∷◌, ◌++◌, length, ap, subst, inl, inr}
 use Rattle.std.specs.Prelude.{◌==◌, All, MatchBool, if◌then◌else◌}
 use Rattle.std.proofs.lemmas.List.Elements.{All-nil, All-cons, All-push, All-weaker}
 use Rattle.dlk_tree.specs.declared.op.Op.{Op}
@@ -9,7 +9,6 @@ use Rattle.dlk_calculus.specs.Steps.{Step, IsProper}
 use Rattle.dlk_calculus.proofs.PlaceLaws.{At_All}
 use Rattle.dlk_machine.specs.Symbols.{ReplacesSymbol}
 use Rattle.dlk_machine.proofs.PairSymbols.{pairs_text_symbols}
-use Rattle.dlk_machine.proofs.TextLaws.{pairs_text_well_made}
 use Rattle.dlk_lines.specs.Spelled.{Spelling, InFull, ByNodes, ArePairsText, NamesEach, none_behind, one_behind, NamesPair, pair, NamesMorePairs}
 use Rattle.dlk_lines.specs.Spelled.{no_more_pairs, one_more_pair, NamesPairs, no_pairs, first_pair}
 use Rattle.dlk_lines.specs.Lines.{IsStep, start, use_axiom, use_rule, leaf, apply, merge, substitute, rename, IsStepLine, numbered}
@@ -21,7 +20,7 @@ use Rattle.dlk_nodes.specs.Lines.{Line, OfNode, Numbered, Done, IsLine}
 use Rattle.dlk_nodes.specs.Nodes.{NamesNode, op_and_kids, IsNode, new_node, IsNodeLine, node_line}
 use Rattle.dlk_nodes.proofs.OneLine.{line_says}
 use Rattle.dlk_replay.specs.Files.{SaySteps, done, more, none, FileSteps}
-use Rattle.dlk_replay.specs.Formats.{Said, TakesStep, HasOtherNumber, TakesNone, Format, SaysLine, said_of, SaysNodeOrStep, begins_two, SaysInFile}
+use Rattle.dlk_replay.specs.Formats.{TakesStep, HasOtherNumber, TakesNone, SaysLine, said_of, SaysNodeOrStep, begins_two, SaysInFile}
 use Rattle.dlk_replay.specs.Symbols.{HasSymbols}
 use Rattle.dlk_replay.proofs.OneSaid.{said_parts}
 

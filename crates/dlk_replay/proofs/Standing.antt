@@ -1,5 +1,5 @@
 -- What a line says of its file, by the version of the file and the nodes so far.
-use Rattle.std.proofs.Common.{◌≡◌, ℕ, ◌+◌, Bool, true, false, List, [], ◌∷◌, ◌++◌, length, map, refl, sym, ap, subst, ◌∙◌, append_assoc, arith, inl}
+use Rattle.std.proofs.Common.{◌≡◌, ℕ, ◌+◌, true, false, List, [], ◌∷◌, ◌++◌, length, refl, sym, ap, subst, ◌∙◌, append_assoc, arith, inl}
 use Rattle.std.proofs.Common.{inr, eq-eqb}
 use Rattle.std.specs.Prelude.{◌==◌, All, MatchBool, if◌then◌else◌}
 use Rattle.std.proofs.lemmas.Bool.{cases_Bool, eqb-true}
@@ -7,11 +7,10 @@ use Rattle.std.proofs.lemmas.List.{length_push, length-map, map-append}
 use Rattle.dlk_tree.specs.Trees.{Tree}
 use Rattle.dlk_calculus.specs.Provables.{Provable}
 use Rattle.dlk_calculus.specs.Steps.{Step}
-use Rattle.dlk_store.specs.declared.Id.{Id}
 use Rattle.dlk_store.specs.Stores.{IsId, tree, Keeps}
 use Rattle.dlk_sequent.proofs.Kept.{trees-kept}
 use Rattle.dlk_termtext.specs.Lines as full
-use Rattle.dlk_nodes.specs.Files.{head_line, Has, only_head, one_node, one_step}
+use Rattle.dlk_nodes.specs.Files.{Has, only_head, one_node, one_step}
 use Rattle.dlk_nodes.specs.Lines.{Line, OfNode, Numbered, Done, IsLine}
 use Rattle.dlk_nodes.specs.Tables.{nodes_at}
 use Rattle.dlk_nodes.proofs.OneLine.{line_says}

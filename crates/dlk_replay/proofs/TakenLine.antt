@@ -1,5 +1,5 @@
 -- A line that was taken, or that is not as it must be, seen from its step or its node.
-use Rattle.std.proofs.Common.{◌≡◌, ◌≢◌, Bool, true, false, refl, sym, ap, ◌∙◌, subst, ℕ, ◌+◌, List, length, inl, inr}
+use Rattle.std.proofs.Common.{◌≡◌, ◌≢◌, false, refl, sym, ap, ◌∙◌, subst, ℕ, ◌+◌, List, length, inl, inr}
 use Rattle.std.specs.Prelude.{◌==◌, All, if◌then◌else◌}
 use Rattle.std.proofs.lemmas.Bool.{cases_Bool, eqb-true}
 use Rattle.std.proofs.lemmas.List.Elements.{All-weaker}
@@ -29,7 +29,7 @@ use Rattle.dlk_nodes.proofs.Tables.{has_same}
 use Rattle.dlk_replay.specs.declared.fault.LineWhy.TheVariants as why
 use Rattle.dlk_replay.specs.declared.fault.ReplayFault.{ReplayFault}
 use Rattle.dlk_replay.specs.declared.fault.ReplayFault.TheVariants.{Bad, Memory}
-use Rattle.dlk_replay.specs.Formats.{Said, TakesStep, HasOtherNumber, TakesNone, said_of}
+use Rattle.dlk_replay.specs.Formats.{Said, TakesStep, HasOtherNumber, TakesNone}
 use Rattle.dlk_replay.specs.Replay.{IsLineInFull, IsNextStep, IsLineFault, IsStepFault, IsNodeFault, of_text, of_node_text, of_step}
 
 -- ---- a number that isn't the next one

@@ -7,7 +7,7 @@ use Rattle.std.specs.BTreeSet.{insert_key}
 use Rattle.dlk_tree.specs.Listed.{var_cmp}
 use Rattle.dlk_tree.specs.declared.op.Var.{Var}
 use Rattle.dlk_tree.specs.declared.op.Op.{Op}
-use Rattle.dlk_tree.specs.Trees.{Tree, node, no_kids, kid, forest}
+use Rattle.dlk_tree.specs.Trees.{Tree, node, kid, forest}
 use Rattle.dlk_store.specs.declared.Id.{Id}
 use Rattle.dlk_store.specs.Stores.{tree, kid_trees}
 use Rattle.dlk_sequent.specs.Sequents.{sequent_at}

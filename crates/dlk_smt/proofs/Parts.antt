@@ -1,13 +1,13 @@
 -- The parts of the texts of a script.
 use Rattle.std.proofs.Common.{◌≡◌, ◌≢◌, ℕ, zero, suc, ◌+◌, ◌-◌, ◌<◌, length, get_or, drop, drop-cons, add-one, Bool, true, false, cond, ne_eqb, List}
-use Rattle.std.proofs.Common.{[], ◌∷◌, ◌++◌, map, filter, Option, Some, refl, sym, ap, ◌∙◌, append_assoc, arith, codes}
+use Rattle.std.proofs.Common.{[], ◌∷◌, ◌++◌, map, Option, Some, refl, sym, ap, ◌∙◌, append_assoc, arith, codes}
 use Rattle.std.specs.Prelude.{if◌then◌else◌, ◌==◌}
 use Rattle.std.proofs.lemmas.List.{append-nil}
 use Rattle.dlk_tree.specs.Trees.{Tree, Forest, node, no_kids, kid, root, WellMade}
 use Rattle.dlk_tree.specs.declared.op.Num.{Num}
 use Rattle.dlk_tree.specs.declared.op.Op.TheVariants.{Number}
 use Rattle.dlk_tree.specs.Table.{kid_sorts}
-use Rattle.dlk_tree.specs.Trees.{sort, sorts}
+use Rattle.dlk_tree.specs.Trees.{sorts}
 use Rattle.dlk_grammar.specs.Shown as canonical
 use Rattle.dlk_calculus.specs.Sequents.{Sequent}
 use Rattle.dlk_print.proofs.Left.{Left}

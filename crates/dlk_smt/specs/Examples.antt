@@ -1,15 +1,13 @@
 -- Texts of sequents for a solver.
 use Rattle.std.specs.Prelude.{◌≡◌, ℕ, true, false, List, [], ◌∷◌, ◌++◌, Some, None, codes, refl}
 use Rattle.std.specs.Fmt.{digits}
-use Rattle.dlk_tree.specs.declared.op.Sym.{Sym}
 use Rattle.dlk_tree.specs.declared.op.Kind.TheVariants.{Func}
-use Rattle.dlk_tree.specs.declared.op.Op.{Op}
 use Rattle.dlk_tree.specs.declared.op.Op.TheVariants as op
 use Rattle.dlk_tree.specs.Trees.{Tree}
 use Rattle.dlk_tree.specs.Statics.{plain, prime}
 use Rattle.dlk_calculus.specs.Notation.{leaf, one, two, number}
 use Rattle.dlk_calculus.specs.Sequents.{Sequent, ◌==>◌}
-use Rattle.dlk_smt.specs.Smt.{line, shown, expression, has_other_power, is_power, first_power, declared, smt, leaves_lines}
+use Rattle.dlk_smt.specs.Smt.{line, shown, expression, has_other_power, first_power, declared, smt, leaves_lines}
 
 abbrev x : Tree
 x = leaf (op.Variable (plain (codes "x")))

@@ -7,7 +7,7 @@ use Rattle.dlk_store.specs.Stores.{Keeps}
 use Rattle.dlk_tacsyn.specs.declared.tactic.Tactic.{Tactic, Choice, Seq, Branch, One, Choice', Seq', Branch', Repeat', Row_of-Tactic, end_of-Tactic}
 use Rattle.dlk_tacsyn.specs.declared.tactic.Tactic.{more_of-Tactic, items-the_row-Tactic, items_hidden-the_row-Tactic-0}
 use Rattle.dlk_tacsyn.specs.Tactics as the
-use Rattle.dlk_tacsyn.specs.Tactics.{Tactics, no_parts, part, count, EachAtomOf}
+use Rattle.dlk_tacsyn.specs.Tactics.{part, count, EachAtomOf}
 use Rattle.dlk_tacsyn.specs.Rows.{IsRun, AreRun}
 use Rattle.dlk_tacsyn.specs.Ties.{tactic_at, tactics_at, TacticIsKnown, TacticsAreKnown}
 use Rattle.dlk_tacsyn.proofs.Kept.{row_in}

@@ -1,4 +1,4 @@
-use Rattle.std.proofs.Common.{Bool, ◌++◌, ◌∷◌, ◌+◌, ap, sym, ◌∙◌, append_assoc, map, filter, drop}
+use Rattle.std.proofs.Common.{Bool, ◌++◌, ◌+◌, ap, sym, ◌∙◌, append_assoc, map, filter, drop}
 use Rattle.dlk_tree.specs.Statics.{free}
 use Rattle.dlk_tree.specs.declared.op.Var.{Var}
 use Rattle.dlk_sequent.specs.Sequents.{sequent_at}

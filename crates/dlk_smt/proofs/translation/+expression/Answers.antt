@@ -1,4 +1,4 @@
-use Rattle.std.proofs.Common.{◌++◌, [], ◌∷◌, ◌-◌, length, drop, arith, rules, codes, sym}
+use Rattle.std.proofs.Common.{◌-◌, length, drop, arith, rules, codes}
 use Rattle.std.proofs.lemmas.List.Elements.{All-drop, All-take}
 use Rattle.std.proofs.lemmas.List.{take_rest}
 use Rattle.dlk_tree.specs.Statics.{plain}
