@@ -3,9 +3,9 @@
 #![tactic(auto)]
 
 mod formula;
+mod in_turn;
 mod laws;
-mod taking;
 
 pub use formula::formula_at;
+pub use in_turn::take_in_turn;
 pub use laws::{boxes_fit, goals_fit, uses_fit, uses_have_shapes, uses_rename_few};
-pub use taking::take_in_turn;

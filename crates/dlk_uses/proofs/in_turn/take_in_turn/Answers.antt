@@ -6,7 +6,7 @@ use Rattle.dlk_kernel.specs.Taken.{none}
 use Rattle.dlk_kernel.proofs.Limited.{fault_weaker}
 use Rattle.dlk_kernel.proofs.RowsKept.{rows_stay, rows_longer}
 use Rattle.dlk_uses.proofs.InTurn.{takes_next, fault_next}
-use Rattle.dlk_uses.proofs.taking.take_in_turn.Goals as goal
+use Rattle.dlk_uses.proofs.in_turn.take_in_turn.Goals as goal
 
 pub loop-step-init : goal.loop-step-init
 loop-step-init g c = record {

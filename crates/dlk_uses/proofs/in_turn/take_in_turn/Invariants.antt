@@ -2,7 +2,7 @@ use Rattle.std.proofs.Common.{map, take}
 use Rattle.dlk_rules.specs.Steps.{step_at}
 use Rattle.dlk_kernel.specs.Kernel.{facts, ExtendsRows}
 use Rattle.dlk_kernel.specs.Taken.{Takes}
-use Rattle.dlk_uses.proofs.taking.take_in_turn.Given as goal
+use Rattle.dlk_uses.proofs.in_turn.take_in_turn.Given as goal
 
 -- the steps so far are taken
 abbrev pub invariant-loop-step : goal.invariant-loop-step
