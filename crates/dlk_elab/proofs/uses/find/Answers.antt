@@ -1,4 +1,4 @@
-use Rattle.std.proofs.Common.{◌≡◌, List, subst}
+use Rattle.std.proofs.Common.{◌≡◌, List, Err, ap, subst}
 use Rattle.std.specs.Option.{option_copied}
 use Rattle.std.proofs.lemmas.Result.{err_from_is_err_and}
 use Rattle.dlk_calculus.specs.Pairs.{Extra}
@@ -8,6 +8,7 @@ use Rattle.dlk_store.specs.Stores.{tree}
 use Rattle.dlk_kernel.specs.Kernel.{facts}
 use Rattle.dlk_match.specs.Found.{HasNoMatch, IsMatch}
 use Rattle.dlk_tacsyn.specs.Ties.{atom_at}
+use Rattle.dlk_elab.specs.declared.fault.TacFault.TheVariants.{UnknownName}
 use Rattle.dlk_elab.specs.Atoms.{NoPlace, NoMatch}
 use Rattle.dlk_elab.specs.Calls.{given_at}
 use Rattle.dlk_elab.specs.Ties.{IsTacFault}
@@ -24,7 +25,8 @@ returns-in_err-named-clause-fault g c =
 
 pub returns-in_err-named-clause-unknown : goal.returns-in_err-named-clause-unknown
 returns-in_err-named-clause-unknown g c =
-    let p = err_from_is_err_and c.from_residual.result c.from_residual.ensures.1 in rw (p.1, p.2) c.in_err-named.ensures.unknown
+    let p = err_from_is_err_and c.from_residual.result c.from_residual.ensures.1 in
+    rw (p.1, p.2) (λ none. let why : c.in_err-named.field-0.0 ≡ UnknownName = cc (c.in_err-named.ensures.unknown none) in ap Err why)
 
 pub returns-in_err-reached-clause-fault : goal.returns-in_err-reached-clause-fault
 returns-in_err-reached-clause-fault g c =

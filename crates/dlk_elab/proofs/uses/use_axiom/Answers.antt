@@ -1,4 +1,4 @@
-use Rattle.std.proofs.Common.{◌≡◌, List, length, map, sym, ap, subst, ◌∙◌, arith}
+use Rattle.std.proofs.Common.{◌≡◌, List, Err, length, map, sym, ap, subst, ◌∙◌, arith}
 use Rattle.std.proofs.lemmas.List.{length-map}
 use Rattle.std.proofs.lemmas.Result.{err_from_is_err_and}
 use Rattle.dlk_tree.specs.Trees.{sort}
@@ -10,6 +10,7 @@ use Rattle.dlk_rules.specs.Steps.{step_at}
 use Rattle.dlk_store.specs.Stores.{tree}
 use Rattle.dlk_sequent.specs.Spines.{top}
 use Rattle.dlk_tacsyn.specs.Ties.{atom_at}
+use Rattle.dlk_elab.specs.declared.fault.TacFault.TheVariants.{UnknownName}
 use Rattle.dlk_elab.specs.Atoms.{FirstFault}
 use Rattle.dlk_elab.proofs.Elaborates.{goal_small, steps_same, known_later}
 use Rattle.dlk_elab.proofs.UseTaken.{Laws, few_renames, planned_there, not_instanced, proves, rest_known, not_finished, made_by_use}
@@ -17,7 +18,8 @@ use Rattle.dlk_elab.proofs.uses.use_axiom.Goals as goal
 
 pub returns-in_err-found-clause-unknown : goal.returns-in_err-found-clause-unknown
 returns-in_err-found-clause-unknown g c =
-    let p = err_from_is_err_and c.from_residual.result c.from_residual.ensures.1 in rw (p.1, p.2) c.in_err-found.ensures.unknown
+    let p = err_from_is_err_and c.from_residual.result c.from_residual.ensures.1 in
+    rw (p.1, p.2) (λ none. let why : c.in_err-found.field-0.0 ≡ UnknownName = cc (c.in_err-found.ensures.unknown none) in ap Err why)
 
 pub instance-requires : goal.instance-requires
 instance-requires g c =
