@@ -277,7 +277,7 @@ room : (all : List Sequent) → All IsLimitedSequent all → All HasFewFormulas 
 room [] h = All-nil HasFewFormulas
 room (s ∷ all) h = All-cons HasFewFormulas s all (All-head IsLimitedSequent s all h).few (room all (All-tail IsLimitedSequent s all h))
 
-one : {A : Type 0} (P : A → Type 0) (x : A) → P x → All P (x ∷ [])
+pub one : {A : Type 0} (P : A → Type 0) (x : A) → P x → All P (x ∷ [])
 one P x h = All-cons P x [] h (All-nil P)
 
 none : {A : Type 0} (P : A → Type 0) → All P []

@@ -4,8 +4,9 @@ ghost use Rattle.dlk_tree.specs.Trees.{Tree};
 ghost use Rattle.dlk_store.specs.Stores.{IsId, tree, kid_trees};
 ghost use Rattle.dlk_calculus.specs.Kids.{last};
 ghost use Rattle.dlk_derive.specs.Derivative.{IsDerivative};
-ghost use Rattle.dlk_derive.specs.Decided.{is_exponent, joins_terms, is_derivable, are_derivable, is_comparison, joins_formulas, is_derivable_formula, are_derivable_formulas};
+ghost use Rattle.dlk_derive.specs.Decided.{is_exponent, joins_terms, is_derivable, are_derivable, joins_formulas, is_derivable_formula, are_derivable_formulas};
 
+use dlk_sequent::is_comparison;
 use dlk_store::{Id, Steps, Store};
 use dlk_tree::Op;
 use std::sync::ledger::Ledger;
@@ -74,12 +75,6 @@ fn are_derivable<S: Store, L: Ledger>(store: &S, ids: &[Id], steps: &mut Steps<L
         }
     }
     true
-}
-
-fn is_comparison(op: &Op) -> bool
-    ensures { result ≡ is_comparison op.now }
-{
-    matches!(op, Op::Eq | Op::Ne | Op::Ge | Op::Gt | Op::Le | Op::Lt)
 }
 
 /// Whether a formula with this operator has a derivative, where each kid has one.

@@ -12,6 +12,7 @@ use Rattle.dlk_guard.specs.declared.raw.Raw.{Raw}
 use Rattle.dlk_guard.specs.Instances.{first_of, unless}
 use Rattle.dlk_guard.specs.Guarded.{Line, made_of, mark_at, mark_of, mark, marks_behind, marks, misuse, why_raw, why_last, line_why, HasPlainStep}
 use Rattle.dlk_guard.specs.Guarded.{IsPlain, Guarded}
+use Rattle.dlk_guard.proofs.LastMark.{flat}
 
 -- no row is raw
 abbrev NoneRaw : List (Option Raw) → Type 0
@@ -21,9 +22,6 @@ none_more : (ms : List (Option Raw)) (m : Option Raw) → NoneRaw ms → m ≡ N
 none_more ms m none e zero = refl
 none_more ms m none e (suc n) = ap flat (at_suc (ms ++ m ∷ []) n) ∙ go ms (λ i. ap flat (sym (at_suc ms i)) ∙ none (suc i)) n
   where
-    flat : Option (Option Raw) → Option Raw
-    flat o = option_and_then (λ mark. mark) o
-
     go : (xs : List (Option Raw)) → ((i : ℕ) → flat (slice_get xs i) ≡ None) → (i : ℕ) → flat (slice_get (xs ++ m ∷ []) i) ≡ None
     go [] h zero = e
     go [] h (suc i) = refl

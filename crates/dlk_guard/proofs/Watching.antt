@@ -2,7 +2,7 @@
 use Rattle.std.proofs.Common.{◌≡◌, ◌∙◌, refl, sym, subst, ap, ℕ, zero, suc, ◌+◌, ◌-◌, ◌<◌, ◌≤◌, List, [], ◌∷◌, ◌++◌, length, take, Bool, true, false}
 use Rattle.std.proofs.Common.{◌⊎◌, inl, inr, arith}
 use Rattle.std.proofs.Common.{Option, None, Some, append_assoc, length-append}
-use Rattle.std.specs.Prelude.{◌==◌, option_and_then}
+use Rattle.std.specs.Prelude.{◌==◌}
 use Rattle.std.specs.List.{slice_get}
 use Rattle.std.proofs.lemmas.Bool.{eq-eqb, eqb-true}
 use Rattle.std.proofs.lemmas.Option.{none-some}
@@ -15,6 +15,7 @@ use Rattle.dlk_guard.specs.declared.guard.Refusal.{Refusal}
 use Rattle.dlk_guard.specs.Instances.{first_of}
 use Rattle.dlk_guard.specs.Guarded.{Line, mark, mark_at, marks_behind, marks, misuse, why_raw, why_last, line_why, IsRefused, Guarded, FirstUnguarded}
 use Rattle.dlk_guard.specs.Watched.{Watch, started, earlier, against, watched, watched_all, watch_of, verdict}
+use Rattle.dlk_guard.proofs.LastMark.{flat}
 
 -- ---- one line more
 
@@ -191,9 +192,6 @@ last_mark all l =
     let count : length (marks (all ++ l ∷ [])) ≡ length (marks all) + 1 = ap length (marks_snoc all l) ∙ length-append (marks all) (mark (marks all) l ∷ []) in
     ap (mark_at (marks (all ++ l ∷ []))) count ∙ ap (λ ms. mark_at ms (length (marks all) + 1)) (marks_snoc all l)
     ∙ ap flat (At-between (marks all) (mark (marks all) l) [])
-  where
-    flat : Option (Option Raw) → Option Raw
-    flat o = option_and_then (λ mark. mark) o
 
 snoc_length : (all : List Line) (l : Line) → length (all ++ l ∷ []) ≡ length all + 1
 snoc_length all l = length-append all (l ∷ [])

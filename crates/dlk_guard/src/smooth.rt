@@ -2,9 +2,10 @@
 ghost use Rattle.std.specs.Prelude.{◌≡◌, map, All};
 ghost use Rattle.dlk_store.specs.Stores.{IsId, tree, kid_trees};
 ghost use Rattle.dlk_calculus.specs.Kids.{last};
-ghost use Rattle.dlk_guard.specs.Smooth.{is_constant_op, is_constant, are_constant, is_whole, ends_in_divisor, joins_smooth, is_smooth, are_smooth, is_comparison, is_connective, is_smooth_formula};
+ghost use Rattle.dlk_guard.specs.Smooth.{is_constant_op, is_constant, are_constant, is_whole, ends_in_divisor, joins_smooth, is_smooth, are_smooth, is_connective, is_smooth_formula};
 
 use crate::parts::is_kept_off_zero;
+use dlk_sequent::is_comparison;
 use dlk_store::{Id, Steps, Store};
 use dlk_tree::Op;
 use std::sync::ledger::Ledger;
@@ -143,12 +144,6 @@ fn are_smooth<S: Store, L: Ledger>(
         }
     }
     true
-}
-
-fn is_comparison(op: &Op) -> bool
-    ensures { result ≡ is_comparison op.now }
-{
-    matches!(op, Op::Eq | Op::Ne | Op::Ge | Op::Gt | Op::Le | Op::Lt)
 }
 
 fn is_connective(op: &Op) -> bool

@@ -1,7 +1,7 @@
 -- The limits of the steps that make sequents: the faults of what is past one, and what is within them all.
 use Rattle.std.proofs.Common.{ℕ, ◌<◌, ◌-◌, List, [], ◌∷◌, ◌++◌, length, take, drop}
 use Rattle.std.specs.List.{All}
-use Rattle.std.proofs.lemmas.List.Elements.{All-head, All-cons, All-nil, All-append, All-take, All-drop, All-weaker}
+use Rattle.std.proofs.lemmas.List.Elements.{All-head, All-nil, All-append, All-take, All-drop, All-weaker}
 use Rattle.dlk_calculus.specs.declared.reason.Reason.{Reason}
 use Rattle.dlk_calculus.specs.declared.reason.Reason.TheVariants.{TooBig, TooDeep, SideFull, GoalsFull, LeavesFull}
 use Rattle.dlk_calculus.specs.Places.{put_all}
@@ -15,7 +15,7 @@ use Rattle.dlk_calculus.specs.Steps.{Step, Start, UseAxiom, UseRule, Leaf, Apply
 use Rattle.dlk_calculus.specs.Steps.{start_full, leaf_full, side_full, goals_merged, leaves_merged, IsWithin, Fault}
 use Rattle.dlk_calculus.proofs.PlaceLaws.{All-front, All-behind}
 use Rattle.dlk_calculus.proofs.LimitLaws.{is_big, is_deep, start_side, leaf_side, apply_side, merge_goals, merge_leaves, limit_cases, first_big, first_deep}
-use Rattle.dlk_calculus.proofs.LimitLaws.{first_side, first_goals, first_leaves}
+use Rattle.dlk_calculus.proofs.LimitLaws.{first_side, first_goals, first_leaves, one}
 use Rattle.dlk_kernel.specs.declared.fault.StepFault.{StepFault}
 use Rattle.dlk_kernel.specs.declared.fault.StepFault.TheVariants.{Refused, Memory}
 use Rattle.dlk_kernel.specs.Faults.{IsStepFault}
@@ -54,9 +54,6 @@ module _ (rows : List Provable) (step : Step) (p : Provable) (given : Gives rows
 
     pub all_within : ¬ Exceeds GoalsFull step p → ¬ Exceeds LeavesFull step p → IsWithin step p
     all_within goals leaves = limit_cases step p (λ w. ⊥) (not_big within.small) (not_deep within.shallow) (tells.few within.few) goals leaves
-
-one : {A : Type 0} (P : A → Type 0) (x : A) → P x → All P (x ∷ [])
-one P x h = All-cons P x [] h (All-nil P)
 
 -- a start makes its sequent, and so does a leaf
 pub start_tells : (s : Sequent) → Tells (Start s) (started s) (s ∷ [])

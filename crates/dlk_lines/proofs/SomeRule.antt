@@ -2,7 +2,7 @@
 use Rattle.std.proofs.Common.{◌≡◌, ℕ, List, Option, Some, None, refl, sym, subst, ◌∙◌}
 use Rattle.dlk_tree.specs.Names.{is_name}
 use Rattle.dlk_tree.specs.Trees.{Tree}
-use Rattle.dlk_calculus.specs.Rules.{Rule, Arguments, OnePlace, TwoPlaces, PlaceAndFormula, OneFormula, PlaceAndName, word_of, arguments_of}
+use Rattle.dlk_calculus.specs.Rules.{Rule, Arguments, OnePlace, TwoPlaces, PlaceAndFormula, OneFormula, PlaceAndName}
 use Rattle.dlk_calculus.proofs.Decide.{is_true}
 use Rattle.dlk_rules.specs.declared.arguments.Shape.{Shape}
 use Rattle.dlk_rules.specs.declared.arguments.Shape.TheVariants as shape

@@ -126,14 +126,15 @@ gives_more rows others step p g =
     subst (λ s. Gives (rows ++ others) s p) (same_step step) (gives_moved rows (rows ++ others) (λ fact. fact) step p (λ fact q named h. at_more rows others
     fact q h) g)
 
+-- there is no item among none
+pub nowhere : {A : Type 0} (n : ℕ) (x : A) → At [] n x → ⊥
+nowhere zero x h = cc
+nowhere (suc n) x h = let e = sym (at_suc [] n) ∙ h in cc
+
 -- a step that was taken has its row, which it still gives
 pub taken_at : (steps : List Step) (rows : List Provable) (n : ℕ) (step : Step) → Takes [] steps rows → At steps n step →
     (p : Provable) × At rows n p × Gives rows step p
-taken_at _ _ n step none h = absurd (nowhere n h)
-  where
-    nowhere : (n : ℕ) → At [] n step → ⊥
-    nowhere zero h = cc
-    nowhere (suc n) h = let e = sym (at_suc [] n) ∙ h in cc
+taken_at _ _ n step none h = absurd (nowhere n step h)
 taken_at _ _ n step (more {steps = steps} {mid = mid} {step = last} {p = p} takes gives) h = elim (at_either steps last step n h) [
   | inl e ↦ let found = taken_at steps mid n step takes e in (found.0, at_more mid (p ∷ []) n found.0 found.1, gives_more mid (p ∷ []) step found.0 found.2)
   | inr e ↦

@@ -15,7 +15,7 @@ use Rattle.dlk_link.specs.Kept.{Keeps, ShowsSame}
 use Rattle.dlk_link.specs.Neat.{AreNamed}
 use Rattle.dlk_kernel.specs.Taken.{Takes, none, more}
 use Rattle.dlk_link.specs.Trimmed.{IsNeeded, the_last, is_named, new_number, moved, Trims, Trimmed, nothing_read, not_needed, kept_before, is_kept}
-use Rattle.dlk_link.proofs.Kept.{at_more, at_last, at_either, at_some, old_number, last_number, take_last, take_length, trims_keep}
+use Rattle.dlk_link.proofs.Kept.{at_more, at_last, at_either, at_some, old_number, last_number, take_last, take_length, trims_keep, nowhere}
 
 names_moved : (to : ℕ → ℕ) (step : Step) (fact : ℕ) → HasFact step fact → HasFact (renumbered to step) (to fact)
 names_moved to (Start s) fact h = h
@@ -65,11 +65,7 @@ place_of items (suc n) x h = let lt = slice_get_within items n x (sym (at_suc it
 -- and earlier ones
 pub facts_before : (steps : List Step) (rows : List Provable) (n : ℕ) (step : Step) (fact : ℕ) → Takes [] steps rows → At steps n step → HasFact step fact →
     (1 ≤ fact) × (fact < n)
-facts_before _ _ n step fact none h named = absurd (nowhere n h)
-  where
-    nowhere : (n : ℕ) → At [] n step → ⊥
-    nowhere zero h = cc
-    nowhere (suc n) h = let e = sym (at_suc [] n) ∙ h in cc
+facts_before _ _ n step fact none h named = absurd (nowhere n step h)
 facts_before _ _ n step fact (more {steps = steps} {mid = mid} {step = last} {p = p} takes gives) h named =
     at_end (facts_before steps mid n step fact takes) (at_either steps last step n h)
   where
@@ -120,10 +116,6 @@ shows term _ _ _ rows takes nothing_read = record {
   stands = λ row step need h. absurd (nowhere row step h);
   onto = λ k a b. absurd (omega (arith, a, b));
 }
-  where
-    nowhere : (n : ℕ) (step : Step) → At [] n step → ⊥
-    nowhere zero step h = cc
-    nowhere (suc n) step h = let e = sym (at_suc [] n) ∙ h in cc
 shows term _ kept _ rows takes (not_needed {read = read} {numbers = numbers} s before needless) =
     let last = take_last (read ++ s ∷ []) read s rows refl takes in
     let was = shows term read kept numbers last.mid last.takes before in

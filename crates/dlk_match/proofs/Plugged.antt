@@ -1,5 +1,5 @@
 -- A variable plugged into what abstracts a tree by it gives the tree back.
-use Rattle.std.proofs.Common.{◌≡◌, refl, sym, ap, subst, ◌∙◌, ◌+◌, List, [], ◌∷◌, Bool, true, false, cond, ◌⊎◌, inl, inr, ◌==◌, eq-eqb, ne_eqb, arith}
+use Rattle.std.proofs.Common.{◌≡◌, refl, sym, ap, subst, ◌∙◌, List, [], ◌∷◌, Bool, true, false, cond}
 use Rattle.std.proofs.lemmas.Bool.{or_parts}
 use Rattle.std.proofs.lemmas.Option.{same_Some}
 use Rattle.dlk_tree.specs.declared.op.Var.{Var}

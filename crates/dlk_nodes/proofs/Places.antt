@@ -1,6 +1,7 @@
 -- Trees that have a node.
 use Rattle.std.proofs.Common.{◌≡◌, suc, ◌≤◌, Bool, true, false, ◌||◌, cond, List, [], ◌∷◌, ◌++◌, length, Some, refl, sym, ap, ◌∙◌, arith}
 use Rattle.std.proofs.lemmas.List.Folds.{list_any-append}
+use Rattle.std.proofs.Math.Bool.{or-true}
 use Rattle.dlk_tree.specs.Trees.{Tree, Forest, no_kids, kid}
 use Rattle.dlk_tree.specs.TreeTests.{tree_eq}
 use Rattle.dlk_tree.proofs.TreeSame.{tree_decides}
@@ -30,11 +31,7 @@ pub still_there : (nodes more : List Tree) (t : Tree) → has_node nodes t ≡ t
 still_there nodes more t h = list_any-append (tree_eq t) nodes more ∙ ap (λ b. b || has_node more t) h
 
 pub there_behind : (nodes more : List Tree) (t : Tree) → has_node more t ≡ true → has_node (nodes ++ more) t ≡ true
-there_behind nodes more t h = list_any-append (tree_eq t) nodes more ∙ ap (λ b. has_node nodes t || b) h ∙ or_true (has_node nodes t)
-  where
-    or_true : (b : Bool) → (b || true) ≡ true
-    or_true true = refl
-    or_true false = refl
+there_behind nodes more t h = list_any-append (tree_eq t) nodes more ∙ ap (λ b. has_node nodes t || b) h ∙ or-true (has_node nodes t)
 
 pub in_neither : (nodes more : List Tree) (t : Tree) → has_node nodes t ≡ false → has_node more t ≡ false → has_node (nodes ++ more) t ≡ false
 in_neither nodes more t h g = list_any-append (tree_eq t) nodes more ∙ ap (λ b. b || has_node more t) h ∙ g

@@ -5,6 +5,7 @@ use Rattle.std.specs.List.{list_any}
 use Rattle.std.specs.List.Sorted.{IsStrictlySortedBy}
 use Rattle.std.specs.Str.{bytes_eq}
 use Rattle.std.proofs.lemmas.Slice.Eq.{bytes_eq-Decides}
+use Rattle.std.proofs.Math.Bool.{or_assoc}
 use Rattle.dlk_tree.specs.Tests.{var_eq}
 use Rattle.dlk_tree.specs.Statics.{plain, prime}
 use Rattle.dlk_tree.specs.Listed.{var_cmp, IsListing}
@@ -16,10 +17,6 @@ use Rattle.dlk_plain.specs.Added.{stands_out, told, Adds}
 -- with what is left, all is added
 pub record Owes {K : Type 0} (same : K → K → Bool) (left whole : K → Bool) (old now : List K) : Type 0 where
   pub owes : (k : K) → (list_any (same k) now || left k) ≡ (list_any (same k) old || whole k)
-
-or_assoc : (a b c : Bool) → ((a || b) || c) ≡ (a || (b || c))
-or_assoc true b c = refl
-or_assoc false b c = refl
 
 pub or_none : (a : Bool) → a ≡ (a || false)
 or_none true = refl

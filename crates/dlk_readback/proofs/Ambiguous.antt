@@ -1,14 +1,14 @@
 -- Which terms have a text that a formula says, too.
 use Rattle.std.proofs.Common.{◌≡◌, Bool, true, false, ◌&&◌, List, [], ◌∷◌, ◌++◌, refl, sym, ap, ◌∙◌}
 use Rattle.std.specs.List.{list_all}
-use Rattle.std.proofs.lemmas.Bool.{and_parts, and_from}
+use Rattle.std.proofs.lemmas.Bool.{and_parts}
 use Rattle.std.proofs.lemmas.List.Folds.{list_all-append}
 use Rattle.dlk_grammar.specs.declared.token.Infix.{Infix}
 use Rattle.dlk_grammar.specs.declared.token.Infix.TheVariants as sign
 use Rattle.dlk_grammar.specs.Lexemes.{Lexeme, Name, Number, Dot, Open, Close, Comma, Prime, RoundBars, RoundBar, BarRound, Op}
 use Rattle.dlk_grammar.specs.Phrases.{Phrase, Phrases, none, Head, Call, Any, Apply, Diff, Everywhere, Except}
 use Rattle.dlk_grammar.specs.Grammar
-use Rattle.dlk_grammar.specs.Grammar.{Nonterminal, formula, imp, disj, conj, unf, atom, term, mul, neg, pow, prim, prog, seq, stmt, Reads, ReadsList}
+use Rattle.dlk_grammar.specs.Grammar.{Nonterminal, formula, imp, disj, conj, unf, atom, term, mul, neg, pow, prim, Reads, ReadsList}
 use Rattle.dlk_grammar.specs.Erased.{erase}
 use Rattle.dlk_grammar.specs.Symbols.{is_formula_too}
 use Rattle.dlk_machine.proofs.ParseLaws.{one_read}

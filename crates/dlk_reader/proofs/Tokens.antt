@@ -5,7 +5,6 @@ use Rattle.dlk_grammar.specs.declared.token.Token.{Token}
 use Rattle.dlk_grammar.specs.declared.token.TokenKind.{TokenKind}
 use Rattle.dlk_grammar.specs.declared.token.TokenKind.TheVariants.{End}
 use Rattle.dlk_grammar.specs.Lexemes.{Lexeme, lexeme_of, lexemes, lexemes_from}
-use Rattle.dlk_grammar.specs.Readings.{TokenAt}
 use Rattle.dlk_lex.specs.declared.fault.LexFault.{LexFault}
 use Rattle.dlk_lex.specs.declared.fault.LexFault.TheVariants as lex
 use Rattle.dlk_lex.specs.declared.source.Origin.{Origin}

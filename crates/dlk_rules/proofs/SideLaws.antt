@@ -1,7 +1,7 @@
 -- The places of a rule are on the side of its word, and each word but `close` has a side or wants a formula alone.
 use Rattle.std.proofs.Common.{◌≡◌, ℕ, List, Option, Some, None, refl, sym, ap, subst, ◌∙◌, ◌⊎◌, inl, inr}
 use Rattle.std.specs.Prelude.{◌↔◌, option_and_then}
-use Rattle.std.proofs.lemmas.Option.{none-some, same_Some}
+use Rattle.std.proofs.lemmas.Option.{none-some}
 use Rattle.dlk_tree.specs.Trees.{Tree}
 use Rattle.dlk_calculus.specs.Places.{IsPlace}
 use Rattle.dlk_calculus.specs.Rules.{Rule, Close, Cut, Arguments, OnePlace, TwoPlaces, PlaceAndFormula, OneFormula, PlaceAndName, figure, word_of, arguments_of}

@@ -13,7 +13,7 @@ use Rattle.dlk_scripts.specs.declared.mode.Turn.{Turn}
 use Rattle.dlk_scripts.specs.declared.state.Within.{Within}
 use Rattle.dlk_scripts.specs.declared.state.Within.TheVariants.{Between, Slash, Comment, CommentStar, Name, Number, Quoted, Less, Quote}
 use Rattle.dlk_scripts.specs.declared.state.State.{State}
-use Rattle.dlk_scripts.specs.Parts.{part, is_no_quote, most_digits, Spells, slash_first, holds_end, IsComment, Spelled}
+use Rattle.dlk_scripts.specs.Parts.{part, is_no_quote, most_digits, Spells, holds_end, Spelled}
 use Rattle.dlk_scripts.specs.Parts as spell
 use Rattle.dlk_scripts.specs.Table.{when, top, leads, changed, wants_name, wants_number, wants_first, wants_argument, wants_fork}
 use Rattle.dlk_scripts.specs.Steps.{mark_of, turned, take, moves, begins, digits_go_on, takes_mark, start, first_state}

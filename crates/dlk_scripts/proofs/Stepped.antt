@@ -12,7 +12,7 @@ use Rattle.dlk_scripts.specs.declared.part.PartKind.TheVariants as kind
 use Rattle.dlk_scripts.specs.declared.state.Within.{Within}
 use Rattle.dlk_scripts.specs.declared.state.Within.TheVariants.{Between, Slash, Comment, CommentStar, Name, Number, Quoted, Less, Quote}
 use Rattle.dlk_scripts.specs.declared.state.State.{State}
-use Rattle.dlk_scripts.specs.Parts.{part, is_no_quote, most_digits, Spells, slash_first, holds_end, IsComment, Spelled}
+use Rattle.dlk_scripts.specs.Parts.{is_no_quote, most_digits, Spells, holds_end, IsComment, Spelled}
 use Rattle.dlk_scripts.specs.Parts as spell
 use Rattle.dlk_scripts.specs.Steps.{take, moves, digits_go_on, ends_name, ends_number, then_starts, step_in, step, settle_in, settle}
 use Rattle.dlk_scripts.proofs.Reached.{Held, Settled, took, star_last, InComment, Pending, Wanted, Placed, ReachedIn, Reached, settled_reached}

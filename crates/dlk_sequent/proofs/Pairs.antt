@@ -5,6 +5,7 @@ use Rattle.std.specs.Prelude.{IsTrue}
 use Rattle.std.specs.List.{list_any}
 use Rattle.std.proofs.lemmas.List.{drop_more, drop_all, take-map, length-map}
 use Rattle.std.proofs.lemmas.Option.{none-some}
+use Rattle.std.proofs.Math.Bool.{or-false}
 use Rattle.dlk_tree.specs.declared.op.Sym.{Sym}
 use Rattle.dlk_tree.specs.Tests.{sym_eq}
 use Rattle.dlk_tree.specs.Table.{kind_row}
@@ -30,15 +31,11 @@ or_last : (a b c : Bool) → a || (b || c) ≡ (a || b) || c
 or_last true b c = refl
 or_last false b c = refl
 
-or_false : (a : Bool) → a || false ≡ a
-or_false true = refl
-or_false false = refl
-
 -- the symbol stands in the first i pairs and the next one
 any_more : (trees : List Tree) (s : Sym) (pairs : List Pair) (i : ℕ) (p : Pair) → i < length pairs → p ≡ get_or pairs i p
     → any_of s (pairs_at trees (take (suc i) pairs)) ≡ any_of s (pairs_at trees (take i pairs)) || sym_eq s p.sym
 any_more trees s [] i p h e = absurd (omega arith)
-any_more trees s (q ∷ pairs) zero p h e = or_false (sym_eq s q.sym) ∙ ap (λ (r : Pair). sym_eq s r.sym) (sym e)
+any_more trees s (q ∷ pairs) zero p h e = or-false (sym_eq s q.sym) ∙ ap (λ (r : Pair). sym_eq s r.sym) (sym e)
 any_more trees s (q ∷ pairs) (suc i) p h e =
     ap (λ b. sym_eq s q.sym || b) (any_more trees s pairs i p (omega arith) e)
     ∙ or_last (sym_eq s q.sym) (any_of s (pairs_at trees (take i pairs))) (sym_eq s p.sym)

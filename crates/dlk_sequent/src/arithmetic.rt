@@ -2,7 +2,7 @@
 ghost use Rattle.std.specs.Prelude.{◌≡◌, All, map};
 ghost use Rattle.std.specs.List.{list_all};
 ghost use Rattle.dlk_store.specs.Stores.{IsId, tree};
-ghost use Rattle.dlk_calculus.specs.Arithmetic.{is_arithmetic, is_arithmetic_tree, is_arithmetic_sequent};
+ghost use Rattle.dlk_calculus.specs.Arithmetic.{is_arithmetic, is_comparison, is_arithmetic_tree, is_arithmetic_sequent};
 ghost use Rattle.dlk_sequent.specs.Sequents.{sequent_at, IsKnown};
 
 use crate::sequent::Sequent;
@@ -57,6 +57,13 @@ fn is_arithmetic(op: &Op) -> bool
         | Op::Seq
         | Op::Loop => false,
     }
+}
+
+/// Whether the operator is one of `=`, `!=`, `>=`, `>`, `<=` and `<`.
+pub fn is_comparison(op: &Op) -> bool
+    ensures { result ≡ is_comparison op.now }
+{
+    matches!(op, Op::Eq | Op::Ne | Op::Ge | Op::Gt | Op::Le | Op::Lt)
 }
 
 /// Whether each operator of the tree is one of arithmetic.

@@ -16,7 +16,7 @@ mod subst;
 mod symbols;
 mod why;
 
-pub use arithmetic::is_arith;
+pub use arithmetic::{is_arith, is_comparison};
 pub use dlk_calculus::Why;
 pub use extra::Extra;
 pub use fault::{ApplyFault, PutFault, SubstFault};

@@ -1,5 +1,5 @@
 -- Argument dots as bits.
-use Rattle.std.proofs.Common.{◌≡◌, ◌≢◌, ℕ, zero, suc, ◌<◌, ◌^◌, ◌==◌, ◌||◌, ◌⊎◌, inl, inr, max, Bool, true, false, bit_or, refl, sym, ap, ◌∙◌, arith}
+use Rattle.std.proofs.Common.{◌≡◌, ◌≢◌, ℕ, zero, suc, ◌<◌, ◌^◌, ◌==◌, ◌||◌, ◌⊎◌, inl, inr, max, false, bit_or, refl, sym, ap, ◌∙◌, arith}
 use Rattle.std.proofs.Common.{eq-eqb, rules}
 use Rattle.std.specs.Int.{bit_at}
 use Rattle.std.proofs.lemmas.Nat.Bits.{bit_at_or, bit_at-lt, bit_at-zero, bit_at-pow_same, bit_at-pow_other}
@@ -20,10 +20,6 @@ max_bit a (suc (suc b)) p q = absurd (omega arith)
 -- a bit is set in either of two where it is in both together
 pub or_bit : (a b n : ℕ) → (bit_at (bit_or a b) n == 1) ≡ ((bit_at a n == 1) || (bit_at b n == 1))
 or_bit a b n = ap (λ x. x == 1) (bit_at_or a b n) ∙ max_bit (bit_at a n) (bit_at b n) (bit_at-lt a n) (bit_at-lt b n)
-
-pub or_assoc : (a b c : Bool) → ((a || b) || c) ≡ (a || (b || c))
-or_assoc true b c = refl
-or_assoc false b c = refl
 
 unequal : (m n : ℕ) → m ≢ n → (m == n) ≡ false
 unequal m n h = search rules

@@ -8,6 +8,7 @@ use Rattle.std.proofs.lemmas.List.Folds.{list_any-append}
 use Rattle.std.proofs.lemmas.List.Quantifiers.{position-Some}
 use Rattle.std.proofs.lemmas.Map.Keys.{any_passes_from_place}
 use Rattle.std.proofs.lemmas.Option.{slice_get-get_or}
+use Rattle.std.proofs.Math.Bool.{or_self}
 use Rattle.dlk_tree.specs.Listed.{is_among}
 use Rattle.dlk_tree.specs.Statics.{plain, prime, just, and_primes}
 use Rattle.dlk_tree.specs.Tests.{var_eq}
@@ -134,12 +135,8 @@ module _ (vars : List Var) (from : Row) (closed : ArePlainToo vars) where
           let out : is_among vars v ≡ false = ap (is_among vars) own ∙ not_among (is_among vars (prime v.name)) refl in
           let like : (v.primed && has vars from (plain v.name)) ≡ has vars from v =
           ap (λ b. b && has vars from (plain v.name)) p ∙ by_flag (plain v.name) e ∙ sym (by_flag v out) in
-          sym (ap (λ b. has vars from v || b) like ∙ itself (has vars from v))
+          sym (ap (λ b. has vars from v || b) like ∙ or_self (has vars from v))
         where
-          itself : (b : Bool) → (b || b) ≡ b
-          itself true = refl
-          itself false = refl
-
           not_among : (b : Bool) → is_among vars (prime v.name) ≡ b → b ≡ false
           not_among true h = absurd (true≢false (sym (closed.plain_too v.name h) ∙ e))
           not_among false h = refl

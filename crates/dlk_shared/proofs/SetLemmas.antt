@@ -17,6 +17,7 @@ use Rattle.dlk_vars.specs.Tables.{number_of, Grows}
 use Rattle.dlk_vars.specs.Sets.{StandsFor, Gains}
 use Rattle.dlk_vars.proofs.Members.{has_stays, within_stays}
 use Rattle.std.specs.Prelude.{All, map}
+use Rattle.std.proofs.Math.Bool.{and-true, or-false}
 use Rattle.dlk_store.specs.declared.listing.Which.{Which}
 use Rattle.dlk_store.specs.declared.listing.Which.TheVariants.{Free, Bound, Must}
 use Rattle.dlk_shared.specs.declared.node.NodeSets.{NodeSets}
@@ -184,14 +185,6 @@ mean_sets_is m =
 
 -- ---- an empty set
 
-pub and_true : (b : Bool) → (b && true) ≡ b
-and_true true = refl
-and_true false = refl
-
-pub or_false : (b : Bool) → (b || false) ≡ b
-or_false true = refl
-or_false false = refl
-
 pub no_number : (r : Row) (answer : Bool) → IsTrue (not answer) ↔ ((m : ℕ) × IsTrue (has_number r m)) → IsTrue answer → (m : ℕ) → has_number r m ≡ false
 no_number r answer some told m = by (has_number r m) refl
   where
@@ -208,20 +201,20 @@ module _ (t : SetTable) (n : ℕ) (answer : Bool) (some : IsTrue (not answer) �
   none_in = record { none = λ set m v. sym (m.holds.members v) ∙ no_member m (number_of t.vars v) }
 
 pub either_none : {t : SetTable} {a b : ℕ} → IsNone t b → Makes either t a b t a
-either_none empty = record { means = λ s r m k. means_same (λ v. sym (ap (λ x. s v || x) (empty.none r k v) ∙ or_false (s v))) m }
+either_none empty = record { means = λ s r m k. means_same (λ v. sym (ap (λ x. s v || x) (empty.none r k v) ∙ or-false (s v))) m }
 
 pub none_either : {t : SetTable} {a b : ℕ} → IsNone t a → Makes either t a b t b
 none_either empty = record { means = λ s r m k. means_same (λ v. sym (ap (λ x. x || r v) (empty.none s m v))) k }
 
 pub without_none : {t : SetTable} {a b : ℕ} → IsNone t b → Makes without t a b t a
-without_none empty = record { means = λ s r m k. means_same (λ v. sym (ap (λ x. s v && not x) (empty.none r k v) ∙ and_true (s v))) m }
+without_none empty = record { means = λ s r m k. means_same (λ v. sym (ap (λ x. s v && not x) (empty.none r k v) ∙ and-true (s v))) m }
 
 -- ---- one item or kid more
 
 pub any_more : {A : Type 0} (p : A → Bool) (xs : List A) (k : ℕ) (d : A) → k < length xs →
     list_any p (take (k + 1) xs) ≡ (list_any p (take k xs) || p (get_or xs k d))
 any_more p xs k d lt = ap (list_any p) (take_more xs k d lt) ∙ list_any-append p (take k xs) (get_or xs k d ∷ [])
-    ∙ ap (λ b. list_any p (take k xs) || b) (or_false (p (get_or xs k d)))
+    ∙ ap (λ b. list_any p (take k xs) || b) (or-false (p (get_or xs k d)))
 
 -- rows are told apart
 pub row_decides : (a b : Row) → Decides (row_eq a b) (a ≡ b)

@@ -7,6 +7,7 @@ use Rattle.std.proofs.lemmas.List.Folds.{list_any-append}
 use Rattle.std.proofs.lemmas.Option.{none-some, same_Some}
 use Rattle.std.specs.List.{list_any}
 use Rattle.std.specs.Prelude.{All}
+use Rattle.std.proofs.Math.Bool.{and-false, and-true, or-false}
 use Rattle.indexmap.specs.IndexSet.{insert_key}
 use Rattle.dlk_tree.specs.Occurs.{constants}
 use Rattle.dlk_tree.specs.Tests.{sym_eq}
@@ -16,11 +17,6 @@ use Rattle.dlk_tree.specs.declared.op.Sym.{Sym}
 use Rattle.dlk_vars.specs.Rows.{Row, has_number}
 use Rattle.dlk_shared.specs.SetTables.{row_at}
 use Rattle.dlk_shared.specs.Signs.{SignTable, stands, sign_at, IsSign, Signs, KeepsSigns}
-use Rattle.dlk_shared.proofs.SetLemmas.{or_false, and_true}
-
-and_false : (b : Bool) → (b && false) ≡ false
-and_false true = refl
-and_false false = refl
 
 -- ---- symbols at the numbers that pass
 
@@ -28,7 +24,7 @@ pub stands_none : (test : ℕ → Bool) (n : ℕ) (xs : List Sym) (s : Sym) → 
 stands_none test n [] s h = refl
 stands_none test n (x ∷ xs) s h =
     let here = h n (omega arith) in
-    (λ i. (sym_eq s x && here i) || stands_none test (suc n) xs s (λ m l. h m (omega (arith, l))) i) ∙ ap (λ b. b || false) (and_false (sym_eq s x))
+    (λ i. (sym_eq s x && here i) || stands_none test (suc n) xs s (λ m l. h m (omega (arith, l))) i) ∙ ap (λ b. b || false) (and-false (sym_eq s x))
 
 pub stands_append : (test : ℕ → Bool) (n : ℕ) (xs ys : List Sym) (s : Sym) →
     stands test n (xs ++ ys) s ≡ (stands test n xs s || stands test (n + length xs) ys s)
@@ -59,11 +55,11 @@ stands_one [] n k x s e = absurd (none-some x e)
 stands_one (y ∷ xs) n zero x s e =
     let here : (n == n + 0) ≡ true = eq-eqb n (n + 0) (omega arith) in
     let rest = stands_none (λ m. m == n + 0) (suc n) xs s (λ m l. ne_eqb m (n + 0) (λ q. omega (arith, l, q))) in
-    (λ i. (sym_eq s y && here i) || rest i) ∙ or_false (sym_eq s y && true) ∙ and_true (sym_eq s y) ∙ ap (sym_eq s) (same_Some y x e)
+    (λ i. (sym_eq s y && here i) || rest i) ∙ or-false (sym_eq s y && true) ∙ and-true (sym_eq s y) ∙ ap (sym_eq s) (same_Some y x e)
 stands_one (y ∷ xs) n (suc k) x s e =
     let here : (n == n + suc k) ≡ false = ne_eqb n (n + suc k) (λ q. omega (arith, q)) in
     let at : n + suc k ≡ suc n + k = omega arith in
-    (λ i. (sym_eq s y && here i) || stands (λ m. m == at i) (suc n) xs s) ∙ ap (λ b. b || stands (λ m. m == suc n + k) (suc n) xs s) (and_false (sym_eq s y))
+    (λ i. (sym_eq s y && here i) || stands (λ m. m == at i) (suc n) xs s) ∙ ap (λ b. b || stands (λ m. m == suc n + k) (suc n) xs s) (and-false (sym_eq s y))
     ∙ stands_one xs (suc n) k x s e
 
 pub stands_first : (xs : List Sym) (k : ℕ) (x s : Sym) → slice_get xs k ≡ Some x → stands (λ m. m == k) 0 xs s ≡ sym_eq s x
@@ -103,7 +99,7 @@ pub stands_kept : (old more new : List Sym) (r : Row) (s : Sym) → new ≡ old 
 stands_kept old more new r s is within =
     ap (λ l. stands (has_number r) 0 l s) is ∙ stands_append (has_number r) 0 old more s
     ∙ ap (λ b. stands (has_number r) 0 old s || b) (stands_none (has_number r) (0 + length old) more s (λ m l. within m (omega (arith, l))))
-    ∙ or_false (stands (has_number r) 0 old s)
+    ∙ or-false (stands (has_number r) 0 old s)
 
 pub sign_kept : {old new : SignTable} {n : ℕ} → KeepsSigns old new → IsSign old n → IsSign new n
 sign_kept {old} {new} {n} k h = record {

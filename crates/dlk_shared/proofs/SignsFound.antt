@@ -5,6 +5,7 @@ use Rattle.std.specs.List.{list_any, IsDistinct}
 use Rattle.std.proofs.lemmas.List.{take_more, length-take}
 use Rattle.std.proofs.lemmas.List.Folds.{list_any-from_Any}
 use Rattle.std.proofs.lemmas.List.Quantifiers.{position-Some}
+use Rattle.std.proofs.Math.Bool.{or-false}
 use Rattle.dlk_tree.proofs.Same.{sym_eq_decides, sym_derived_decides}
 use Rattle.dlk_tree.specs.Tests.{sym_eq}
 use Rattle.dlk_tree.specs.contracts.op.SymPartialEq.TheImpl as SymEq
@@ -12,7 +13,6 @@ use Rattle.dlk_tree.specs.declared.op.Sym.{Sym}
 use Rattle.dlk_shared.specs.Signs.{stands}
 use Rattle.dlk_shared.specs.Unique.{place_one}
 use Rattle.dlk_shared.proofs.SignLemmas.{stands_append}
-use Rattle.dlk_shared.proofs.SetLemmas.{or_false}
 
 differs : (s y : Sym) → (y ≡ s → ⊥) → sym_eq s y ≡ false
 differs s y h = by (sym_eq s y) refl
@@ -35,7 +35,7 @@ stands_at test n (y ∷ xs) zero s lt e one =
     let here = (sym_eq_decides s y).1 (sym e) in
     let rest = stands_absent test (suc n) xs s (λ j l q. let z = one (suc j) (omega (arith, l)) q in absurd (omega (arith, z))) in
     let at : n ≡ n + 0 = omega arith in
-    (λ i. (here i && test n) || rest i) ∙ or_false (test n) ∙ ap test at
+    (λ i. (here i && test n) || rest i) ∙ or-false (test n) ∙ ap test at
 stands_at test n (y ∷ xs) (suc k) s lt e one =
     let here = differs s y (λ q. let z = one 0 (omega arith) q in absurd (omega (arith, z))) in
     let at : suc n + k ≡ n + suc k = omega arith in
@@ -64,5 +64,5 @@ stands_more test xs k d s lt =
     let long : k ≡ 0 + length (take k xs) = omega (arith, length-take k xs) in
     let front = stands test 0 (take k xs) s in
     (λ i. front || (sym_eq s x && test (long i)))
-    ∙ ap (λ b. front || b) (sym (or_false (sym_eq s x && test (0 + length (take k xs)))))
+    ∙ ap (λ b. front || b) (sym (or-false (sym_eq s x && test (0 + length (take k xs)))))
     ∙ sym (ap (λ l. stands test 0 l s) (take_more xs k d lt) ∙ stands_append test 0 (take k xs) (x ∷ []) s)

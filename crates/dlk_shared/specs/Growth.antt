@@ -6,19 +6,12 @@ use Rattle.std.proofs.Math.Seq.{get_or-append_seam}
 use Rattle.std.proofs.lemmas.Bool.{cases_lt}
 use Rattle.dlk_tree.specs.declared.op.Op.{Op}
 use Rattle.dlk_tree.specs.declared.op.Op.TheVariants.{True}
-use Rattle.dlk_tree.specs.Trees.{Tree, node, Forest, no_kids, kid, WellMade, AllWellMade}
+use Rattle.dlk_tree.specs.Trees.{Tree, node, Forest, no_kids, kid, WellMade}
 use Rattle.dlk_tree.specs.Table.{Fits}
 use Rattle.dlk_store.specs.declared.Id.{Id}
 use Rattle.dlk_store.specs.Stores.{IsId, tree, kid_trees, sorts_at, Keeps, StandsFor, HasOneId}
-use Rattle.dlk_store.specs.Kids.{sorts-kid_trees, Keeps-refl, Keeps-trans, kid_trees-kept, sorts_at-kept}
+use Rattle.dlk_store.specs.Kids.{sorts-kid_trees, Keeps-refl, Keeps-trans, kid_trees-kept, sorts_at-kept, push_keeps, kids_made}
 use Rattle.dlk_shared.specs.Rows.{Row, tree_of, trees_after, trees_of_rows, AreSoundRows}
-
--- one more tree keeps the trees
-push_keeps : (trees : List Tree) (t : Tree) → Keeps trees (trees ++ t ∷ [])
-push_keeps trees t = record {
-  known = omega (arith, length-append trees (t ∷ []));
-  same = λ id h. get_or_append_left trees (t ∷ []) (node True no_kids) id.0 h;
-}
 
 after_keeps : (trees : List Tree) (rs : List Row) → Keeps trees (trees_after trees rs)
 after_keeps trees [] = Keeps-refl trees
@@ -64,10 +57,6 @@ module _ (rows : List Row) (sound : AreSoundRows rows) where
   -- a row's kids are ids
   pub kids_known : (k : ℕ) (d : Row) → k < length rows → All (IsId (trees_of_rows rows)) (get_or rows k d).kids
   kids_known k d h i e lt = let b = sound.before k d h i e lt in omega (arith, b, rows_length rows)
-
-  kids_made : (trees : List Tree) (ks : List Id) → ((i : ℕ) (d : Id) → i < length ks → WellMade (tree trees (get_or ks i d))) → AllWellMade (kid_trees trees ks)
-  kids_made trees [] made = tt
-  kids_made trees (k ∷ ks) made = (made 0 k (omega arith), kids_made trees ks (λ i d h. made (suc i) d (omega arith)))
 
   made_below : (b k : ℕ) (d : Row) → k < b → k < length rows → WellMade (get_or (trees_of_rows rows) k (node True no_kids))
   made_below zero k d lt h = absurd (omega arith)

@@ -11,6 +11,7 @@ use Rattle.std.specs.declared.cmp.Ordering.{Ordering}
 use Rattle.std.specs.declared.cmp.Ordering.TheVariants.{Less, Equal, Greater}
 use Rattle.std.specs.BTreeSet.{insert_key}
 use Rattle.std.proofs.lemmas.Slice.Eq.{bytes_eq-Decides}
+use Rattle.std.proofs.Math.Bool.{or-true}
 use Rattle.dlk_tree.specs.Table.{all_distinct}
 use Rattle.dlk_smt.specs.Smt.{put_all}
 
@@ -56,14 +57,10 @@ Has-at [] i d h = absurd (omega (arith, h))
 Has-at (x ∷ xs) zero d h = inl refl
 Has-at (x ∷ xs) (suc i) d h = inr (Has-at xs i d (omega (arith, h)))
 
-or_true : (b : Bool) → (b || true) ≡ true
-or_true true = refl
-or_true false = refl
-
 pub any_Has : {A : Type 0} (p : A → Bool) (x : A) (xs : List A) → p x ≡ true → Has x xs → list_any p xs ≡ true
 any_Has p x [] t h = absurd h
 any_Has p x (z ∷ xs) t (inl e) = ap (λ b. b || list_any p xs) (ap p (sym e) ∙ t)
-any_Has p x (z ∷ xs) t (inr h) = ap (λ b. p z || b) (any_Has p x xs t h) ∙ or_true (p z)
+any_Has p x (z ∷ xs) t (inr h) = ap (λ b. p z || b) (any_Has p x xs t h) ∙ or-true (p z)
 
 -- ---- what holds of each
 

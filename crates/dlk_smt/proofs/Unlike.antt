@@ -2,6 +2,7 @@
 use Rattle.std.proofs.Common.{◌≡◌, ℕ, Bool, true, false, ◌&&◌, List, [], ◌∷◌, ◌++◌, get_or, drop, cond, refl, sym, ap, ◌∙◌, append_assoc, arith}
 use Rattle.std.specs.List.{list_all}
 use Rattle.std.proofs.lemmas.List.{append_cancel_right}
+use Rattle.std.proofs.Math.Bool.{and-false}
 use Rattle.dlk_tree.specs.Names.{is_name, is_name_byte}
 use Rattle.dlk_tree.specs.declared.op.Var.{Var}
 use Rattle.dlk_smt.specs.Smt.{variable_symbol, function_symbol, base_symbol}
@@ -14,14 +15,10 @@ pub and_right : (a b : Bool) → (a && b) ≡ true → b ≡ true
 and_right true b e = e
 and_right false b e = absurd cc
 
-and_false : (b : Bool) → (b && false) ≡ false
-and_false true = refl
-and_false false = refl
-
 -- no name ends in a prime
 quote_last : (bs : List ℕ) → list_all is_name_byte (bs ++ 39 ∷ []) ≡ false
 quote_last [] = refl
-quote_last (b ∷ bs) = ap (λ r. is_name_byte b && r) (quote_last bs) ∙ and_false (is_name_byte b)
+quote_last (b ∷ bs) = ap (λ r. is_name_byte b && r) (quote_last bs) ∙ and-false (is_name_byte b)
 
 no_quote : (n : List ℕ) → is_name (n ++ 39 ∷ []) ≡ true → ⊥
 no_quote [] h = absurd cc

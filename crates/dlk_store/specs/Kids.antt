@@ -1,7 +1,9 @@
 -- What was kept stays so, and so do kids that stand in it: lemmas that each store needs for its impl of the trait.
-use Rattle.std.proofs.Common.{◌≡◌, ℕ, suc, ◌≤◌, List, [], ◌∷◌, refl, ap, ◌∙◌, arith}
+use Rattle.std.proofs.Common.{◌≡◌, ℕ, suc, ◌<◌, List, [], ◌∷◌, ◌++◌, length, get_or, refl, ap, ◌∙◌, arith}
 use Rattle.std.specs.Prelude.{All}
-use Rattle.dlk_tree.specs.Trees.{Tree, kid, sort, sorts}
+use Rattle.std.proofs.lemmas.List.{get_or_append_left, length-append}
+use Rattle.dlk_tree.specs.declared.op.Op.TheVariants.{True}
+use Rattle.dlk_tree.specs.Trees.{Tree, node, no_kids, kid, sort, sorts, WellMade, AllWellMade}
 use Rattle.dlk_store.specs.declared.Id.{Id}
 use Rattle.dlk_store.specs.Stores.{IsId, tree, kid_trees, sorts_at, Keeps}
 
@@ -34,3 +36,16 @@ sorts_at-kept {old} {new} p (k ∷ ks) all =
     let head = ap sort (p.same k (all 0 k (omega arith))) in
     let tail = sorts_at-kept p ks (λ i d h. all (suc i) d (omega arith)) in
     λ i. head i ∷ tail i
+
+-- one more tree keeps the trees
+pub push_keeps : (trees : List Tree) (t : Tree) → Keeps trees (trees ++ t ∷ [])
+push_keeps trees t = record {
+  known = omega (arith, length-append trees (t ∷ []));
+  same = λ id h. get_or_append_left trees (t ∷ []) (node True no_kids) id.0 h;
+}
+
+-- kids that are ids of well made trees
+pub kids_made : (trees : List Tree) (ks : List Id) → ((i : ℕ) (d : Id) → i < length ks → WellMade (tree trees (get_or ks i d))) →
+    AllWellMade (kid_trees trees ks)
+kids_made trees [] made = tt
+kids_made trees (k ∷ ks) made = (made 0 k (omega arith), kids_made trees ks (λ i d h. made (suc i) d (omega arith)))

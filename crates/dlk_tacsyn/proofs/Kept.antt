@@ -16,7 +16,7 @@ use Rattle.dlk_tacsyn.specs.declared.tactic.Tactic.{Tactic, Choice, Seq, Branch,
 use Rattle.dlk_tacsyn.specs.declared.tactic.Tactic.{more_of-Tactic, items-the_row-Tactic, items_hidden-the_row-Tactic-0}
 use Rattle.dlk_tacsyn.specs.declared.frame.Frame.{Frame}
 use Rattle.dlk_tacsyn.specs.declared.frame.Brackets.{Brackets}
-use Rattle.dlk_tacsyn.specs.Tactics.{Argument, GivenFormula, GivenTerm, GivenExtra, Tactics, part}
+use Rattle.dlk_tacsyn.specs.Tactics.{GivenFormula, GivenTerm, GivenExtra, Tactics, part}
 use Rattle.dlk_tacsyn.specs.Tactics as the
 use Rattle.dlk_tacsyn.specs.Strategies.{parts, whole}
 use Rattle.dlk_tacsyn.specs.Ties.{argument_at, ArgumentIsKnown, tactic_at, tactics_at, TacticIsKnown, TacticsAreKnown}

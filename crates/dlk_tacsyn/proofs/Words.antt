@@ -17,7 +17,7 @@ use Rattle.dlk_rules.specs.Steps.{Template, WantsPlace, WantsTwoPlaces, WantsPla
 use Rattle.dlk_rules.specs.Words.{text_made, text_of, wanted, named}
 use Rattle.dlk_rules.proofs.WordLaws.{found_word}
 use Rattle.dlk_tacsyn.specs.declared.kind.Kind.TheVariants.{FixedPlace, AnyPlace, QuotedFormula, QuotedTerm, AName, QuotedExtra}
-use Rattle.dlk_tacsyn.specs.Rows.{Row, wants, is_bare, is_use, is_at_place, is_with_formula, kinds_of, Doer, Elaborator, Library, Run, Entry, entry}
+use Rattle.dlk_tacsyn.specs.Rows.{Row, wants, is_bare, is_use, is_at_place, is_with_formula, kinds_of, Doer, Elaborator, Library, Run, Entry}
 use Rattle.dlk_tacsyn.specs.Rows.{rule_entry, entry_of, row_if, row_by, row_found, row_of, library_row_of, derive_row_of, text_row_of}
 
 -- some rule has the word

@@ -2,6 +2,7 @@
 use Rattle.std.proofs.Math.ListN.{length-replicate}
 use Rattle.std.proofs.Common.{◌≡◌, ℕ, suc, ◌<◌, List, [], ◌∷◌, ◌++◌, Bool, true, false, ◌||◌, not, length, replicate, refl, sym, ap, ◌∙◌, arith, max}
 use Rattle.std.specs.Bool.{Decides}
+use Rattle.std.proofs.Math.Bool.{or_assoc}
 use Rattle.dlk_tree.specs.Tests.{var_eq}
 use Rattle.dlk_tree.specs.Listed.{is_among}
 use Rattle.dlk_tree.specs.declared.op.Var.{Var}
@@ -38,10 +39,6 @@ fresh_not_among vars = longer_not_among (fresh vars) vars (omega (arith, replica
 pub among_append : (v : Var) (xs ys : List Var) → is_among (xs ++ ys) v ≡ (is_among xs v || is_among ys v)
 among_append v [] ys = refl
 among_append v (x ∷ xs) ys = ap (λ b. var_eq v x || b) (among_append v xs ys) ∙ sym (or_assoc (var_eq v x) (is_among xs v) (is_among ys v))
-  where
-    or_assoc : (a b c : Bool) → ((a || b) || c) ≡ (a || (b || c))
-    or_assoc true b c = refl
-    or_assoc false b c = refl
 
 pub neither : (a b : Bool) → (a || b) ≡ false → (not a ≡ true) × (not b ≡ true)
 neither true b e = (cc, cc)

@@ -5,6 +5,7 @@ use Rattle.std.specs.Prelude.{IsTrue, ◌↔◌}
 use Rattle.std.specs.Option.{option_map_or}
 use Rattle.std.proofs.lemmas.Bool.{cases_lt, eq-eqb, ne_eqb}
 use Rattle.std.proofs.lemmas.Option.{none-some, same_Some, slice_get-get_or}
+use Rattle.std.proofs.Math.Bool.{or-false}
 use Rattle.dlk_tree.specs.Names.{is_name}
 use Rattle.dlk_tree.specs.Statics.{just, either, both, without}
 use Rattle.dlk_tree.specs.Tests.{var_eq}
@@ -62,10 +63,6 @@ minus_picks one other r joined = record {
 pub with_gains : (s r : Row) (n : ℕ) → ((m : ℕ) → has_number r m ≡ (has_number s m || m == n)) → r.others ≡ s.others → Gains s n r
 with_gains s r n numbers flag = record { members = members; within = within }
   where
-    or_false : (c : Bool) → (c || false) ≡ c
-    or_false true = refl
-    or_false false = refl
-
     not_it : (w v : Var) → (w ≡ v → ⊥) → var_eq w v ≡ false
     not_it w v ne = go (var_eq w v) refl
       where
@@ -79,7 +76,7 @@ with_gains s r n numbers flag = record { members = members; within = within }
         by : (o : Option ℕ) → number_of table w ≡ o → option_map_or (has_number r) o r.others ≡ (option_map_or (has_number s) o s.others || var_eq w v)
         by None q =
             let off = not_it w v (λ (p : w ≡ v). none-some n (sym q ∙ ap (number_of table) p ∙ e)) in
-            flag ∙ sym (ap (λ b. s.others || b) off ∙ or_false s.others)
+            flag ∙ sym (ap (λ b. s.others || b) off ∙ or-false s.others)
         by (Some m) q = numbers m ∙ ap (λ b. has_number s m || b) (same (m == n) refl)
           where
             same : (b : Bool) → (m == n) ≡ b → b ≡ var_eq w v
@@ -91,7 +88,7 @@ with_gains s r n numbers flag = record { members = members; within = within }
 
     within : (table : List Var) → n < length table → IsWithin table s → IsWithin table r
     within table h p m l =
-        numbers m ∙ (λ i. p m l i || ne_eqb m n (λ e. omega (arith, e, h, l)) i) ∙ or_false s.others ∙ sym flag
+        numbers m ∙ (λ i. p m l i || ne_eqb m n (λ e. omega (arith, e, h, l)) i) ∙ or-false s.others ∙ sym flag
 
 -- ---- some variable
 

@@ -13,6 +13,7 @@ use Rattle.std.specs.Prelude.{nat_eq}
 use Rattle.std.proofs.lemmas.Bool.{and_parts}
 use Rattle.std.proofs.lemmas.Bool.Decides.{Decides-eqb}
 use Rattle.std.proofs.lemmas.Slice.Eq.{slice_eq-Decides}
+use Rattle.std.proofs.Math.Bool.{or-true, or-false}
 use Rattle.dlk_vars.specs.Rows.{Row, word, has_number, ByNumber, row_eq}
 use Rattle.dlk_vars.proofs.Bits.{or_bit, and_bit, and_not_bit}
 
@@ -187,25 +188,17 @@ module _ (s r : Row) (n k : ℕ) (left : length s.words ≤ k) (within : n / 64 
   pub with_numbers : (m : ℕ) → has_number r m ≡ (has_number s m || m == n)
   with_numbers m = ap (λ w. bit_at w (m % 64) == 1) (with_word (m / 64)) ∙ by (m / 64 == n / 64) refl (m == n) refl
     where
-      or_true : (c : Bool) → (c || true) ≡ true
-      or_true true = refl
-      or_true false = refl
-
-      or_false : (c : Bool) → (c || false) ≡ c
-      or_false true = refl
-      or_false false = refl
-
       by : (c : Bool) → (m / 64 == n / 64) ≡ c → (e : Bool) → (m == n) ≡ e
           → (bit_at (cond c (bit_or (word s (m / 64)) (1 * 2 ^ (n % 64) % 2 ^ 64)) (word s (m / 64))) (m % 64) == 1) ≡ (has_number s m || e)
       by true p true q =
           let low : m % 64 ≡ n % 64 = ap (λ t. t % 64) (eqb-true m n q) in
           ap (λ t. bit_at (bit_or (word s (m / 64)) (1 * 2 ^ (n % 64) % 2 ^ 64)) t == 1) low
-          ∙ eq-eqb _ 1 (bit_at_set_same w64 (word s (m / 64)) (n % 64) (omega arith)) ∙ sym (or_true (has_number s m))
+          ∙ eq-eqb _ 1 (bit_at_set_same w64 (word s (m / 64)) (n % 64) (omega arith)) ∙ sym (or-true (has_number s m))
       by true p false q =
           let other : m % 64 ≢ n % 64 = λ e. absurd (true≢false (sym (eq-eqb m n (omega (arith, e, eqb-true (m / 64) (n / 64) p))) ∙ q)) in
-          ap (λ t. t == 1) (bit_at_set_other w64 (word s (m / 64)) (n % 64) (omega arith) (m % 64) other) ∙ sym (or_false (has_number s m))
+          ap (λ t. t == 1) (bit_at_set_other w64 (word s (m / 64)) (n % 64) (omega arith) (m % 64) other) ∙ sym (or-false (has_number s m))
       by false p true q = absurd (true≢false (sym (eq-eqb (m / 64) (n / 64) (ap (λ t. t / 64) (eqb-true m n q))) ∙ p))
-      by false p false q = sym (or_false (has_number s m))
+      by false p false q = sym (or-false (has_number s m))
 
 -- rows that the test finds the same
 pub row_same : (a b : Row) → row_eq a b ≡ true → a ≡ b

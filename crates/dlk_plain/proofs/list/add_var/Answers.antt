@@ -1,13 +1,10 @@
-use Rattle.std.proofs.Common.{◌≡◌, ◌∙◌, ◌||◌, ◌&&◌, Bool, true, false, List, ℕ, ap, refl, sym, subst}
+use Rattle.std.proofs.Common.{◌≡◌, ◌∙◌, ◌||◌, ◌&&◌, true, List, ℕ, ap, sym, subst}
+use Rattle.std.proofs.Math.Bool.{and-true}
 use Rattle.dlk_tree.specs.declared.op.Var.{Var}
 use Rattle.dlk_tree.specs.Tests.{var_eq}
 use Rattle.dlk_tree.specs.Listed.{is_among}
 use Rattle.dlk_tree.proofs.Listing.{var_inserted}
 use Rattle.dlk_plain.proofs.list.add_var.Goals as goal
-
-and_true : (b : Bool) → b ≡ (b && true)
-and_true true = refl
-and_true false = refl
 
 pub returns-in_ok-insert : goal.returns-in_ok-insert
 returns-in_ok-insert c =
@@ -18,5 +15,5 @@ returns-in_ok-insert c =
     let adds = subst (λ (x : List ℕ). (v : Var) → is_among new v ≡ (is_among old v || var_eq v (var x))) (sym c.in_ok-name.ensures.cases) added in
     record {
       adds = λ v. adds v ∙ ap (λ b. is_among old v || b)
-          (and_true (var_eq v (var c.args.name.now)) ∙ ap (λ b. var_eq v (var c.args.name.now) && b) (sym c.if-wanted.true));
+          (sym (and-true (var_eq v (var c.args.name.now))) ∙ ap (λ b. var_eq v (var c.args.name.now) && b) (sym c.if-wanted.true));
     }

@@ -1,12 +1,12 @@
 use Rattle.std.proofs.Common.{◌≡◌, ◌<◌, ◌||◌, ◌&&◌, length, take, ap, subst, ◌∙◌, arith}
 use Rattle.std.specs.List.{list_any}
 use Rattle.std.proofs.lemmas.List.{take_all}
+use Rattle.std.proofs.Math.Bool.{or_assoc}
 use Rattle.dlk_tree.specs.Statics.{plain}
 use Rattle.dlk_tree.specs.declared.op.Var.{Var}
 use Rattle.dlk_vars.specs.Tables.{IsTable}
 use Rattle.dlk_vars.specs.Sets.{has}
 use Rattle.dlk_shared.specs.SetTables.{SetTable, row_at, var_at, is_prime_of, ArePlainToo}
-use Rattle.dlk_shared.proofs.Bits.{or_assoc}
 use Rattle.dlk_shared.proofs.Primes.{primes, primes_more, primes_all}
 use Rattle.dlk_shared.proofs.SetLemmas.{Grows-trans, kept_primes}
 use Rattle.dlk_shared.proofs.sets.SetTable.and_primes.Goals as goal

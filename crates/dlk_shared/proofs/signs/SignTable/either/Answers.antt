@@ -1,15 +1,11 @@
-use Rattle.std.proofs.Common.{◌≡◌, ℕ, Bool, true, false, ◌||◌, ◌∙◌, ap, sym, refl}
+use Rattle.std.proofs.Common.{◌≡◌, ℕ, true, ◌||◌, ◌∙◌, ap, sym}
+use Rattle.std.proofs.Math.Bool.{or_self, or-false}
 use Rattle.dlk_tree.specs.declared.op.Sym.{Sym}
 use Rattle.dlk_vars.specs.Rows.{has_number}
 use Rattle.dlk_shared.specs.SetTables.{row_at}
 use Rattle.dlk_shared.specs.Signs.{sign_at}
 use Rattle.dlk_shared.proofs.SignLemmas.{row_signs, stands_or}
 use Rattle.dlk_shared.proofs.signs.SignTable.either.Goals as goal
-use Rattle.dlk_shared.proofs.SetLemmas.{or_false}
-
-itself : (b : Bool) → (b || b) ≡ b
-itself true = refl
-itself false = refl
 
 pub returns-then-a-b-clause-signs : goal.returns-then-a-b-clause-signs
 returns-then-a-b-clause-signs c =
@@ -17,14 +13,14 @@ returns-then-a-b-clause-signs c =
     record {
       is = c.requires.first;
       members =
-          λ s. sym (ap (λ n. sign_at old c.args.a s || sign_at old n s) (sym c.if-a-b.true) ∙ itself (sign_at old c.args.a s));
+          λ s. sym (ap (λ n. sign_at old c.args.a s || sign_at old n s) (sym c.if-a-b.true) ∙ or_self (sign_at old c.args.a s));
     }
 
 pub returns-then-is_none-clause-signs : goal.returns-then-is_none-clause-signs
 returns-then-is_none-clause-signs c =
     let old = c.args.self.now in
     let none = c.is_none.ensures c.if-is_none.true in
-    record { is = c.requires.first; members = λ s. sym (ap (λ x. sign_at old c.args.a s || x) (none.none s) ∙ or_false (sign_at old c.args.a s)) }
+    record { is = c.requires.first; members = λ s. sym (ap (λ x. sign_at old c.args.a s || x) (none.none s) ∙ or-false (sign_at old c.args.a s)) }
 
 pub returns-then-is_none-2-clause-signs : goal.returns-then-is_none-2-clause-signs
 returns-then-is_none-2-clause-signs c =

@@ -1,16 +1,17 @@
 use Rattle.std.proofs.Common.{◌≡◌, ◌<◌, ◌||◌, ◌∙◌, Bool, length, take, get_or, ap, sym, subst, arith}
 use Rattle.std.specs.List.{list_any}
 use Rattle.std.proofs.lemmas.List.{take_all}
+use Rattle.std.proofs.Math.Bool.{or-false}
 use Rattle.dlk_tree.specs.declared.op.Sym.{Sym}
 use Rattle.dlk_shared.specs.Signs.{sign_at, Signs}
-use Rattle.dlk_shared.proofs.SetLemmas.{any_more, or_false}
+use Rattle.dlk_shared.proofs.SetLemmas.{any_more}
 use Rattle.dlk_shared.proofs.SignLemmas.{signs_same, sign_kept, sign_at_kept, keeps_refl, keeps_trans, grouped}
 use Rattle.dlk_shared.proofs.signs.SignTable.with_kids.Goals as goal
 
 pub loop-kid-init : goal.loop-kid-init
 loop-kid-init c =
     let old = c.args.self.now in
-    record { keeps = keeps_refl old; signs = record { is = c.requires.own; members = λ s. sym (or_false (sign_at old c.args.own s)) } }
+    record { keeps = keeps_refl old; signs = record { is = c.requires.own; members = λ s. sym (or-false (sign_at old c.args.own s)) } }
 
 pub either-requires : goal.either-requires
 either-requires c =

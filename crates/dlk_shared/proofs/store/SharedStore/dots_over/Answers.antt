@@ -1,11 +1,12 @@
 use Rattle.std.proofs.Common.{◌+◌, ◌==◌, ◌||◌, drop, sym, ap, ◌∙◌}
 use Rattle.std.specs.Int.{bit_at}
+use Rattle.std.proofs.Math.Bool.{or_assoc}
 use Rattle.dlk_tree.specs.Occurs.{any_has, is_dot}
 use Rattle.dlk_store.specs.declared.Id.{Id}
 use Rattle.dlk_store.specs.Stores.{kid_trees}
 use Rattle.dlk_store.proofs.Kids.{kid_trees-drop}
 use Rattle.dlk_shared.specs.Nodes.{trees_of}
-use Rattle.dlk_shared.proofs.Bits.{own_dot, or_bit, or_assoc}
+use Rattle.dlk_shared.proofs.Bits.{own_dot, or_bit}
 use Rattle.dlk_shared.proofs.store.SharedStore.dots_over.Goals as goal
 
 pub loop-k-init : goal.loop-k-init
