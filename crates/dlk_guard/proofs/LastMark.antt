@@ -5,7 +5,7 @@ use Rattle.dlk_calculus.proofs.PlaceLaws.{At-between}
 use Rattle.dlk_guard.specs.declared.raw.Raw.{Raw}
 use Rattle.dlk_guard.specs.Guarded.{mark_at}
 
-pub flat : Option (Option Raw) → Option Raw
+abbrev pub flat : Option (Option Raw) → Option Raw
 flat o = option_and_then (λ mark. mark) o
 
 pub last_marked : (all front : List (Option Raw)) (m : Option Raw) → all ≡ front ++ m ∷ [] → m ≡ mark_at all (length all)
