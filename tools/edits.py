@@ -4,7 +4,7 @@
     python3 tools/edits.py [NAME ..] [--room FOLDER] [--jobs N] [--table]
     python3 tools/edits.py [NAME ..] --together
     python3 tools/edits.py [NAME ..] --look
-    python3 tools/edits.py [NAME ..] --starved [--look]
+    python3 tools/edits.py [NAME ..] --starved [--together | --look]
     python3 tools/edits.py --consistent [NAME ..] [--room FOLDER] [--jobs N] [--look]
 
 An edit is a file that makes the code of a crate wrong. Those that tell most stand in `crates/NAME/must-fail/`, and the gate tries them; the
@@ -317,10 +317,11 @@ def tried_in_rounds(room, name, jobs):
     """Tries the edits of one crate, many in one check of so many jobs, and gives what came of each: from a run before, where nothing has changed since."""
     folder = room / "crates" / name
     kept, key = room / f"{name}.rounds", sum_of(room, name)
+    bodies = [rounds.body_of(folder, it.stem, it) for it in sorted((folder / "must-fail").glob("*.edit"))]
     shutil.rmtree(folder / "must-fail")
     before = json.loads(kept.read_text()) if kept.is_file() else {}
     found = {it[1]: Tried(*it) for it in before["tried"]} if before.get("of") == key else {}
-    left = [rounds.body_of(folder, edit, path) for edit, path in edits_of(name).items() if edit not in found]
+    left = [it for it in bodies if it.name not in found]
     if left:
         crate = rounds.Crate(folder, ["rt", "check", "--jobs", str(jobs)])
         why = crate.prove()
@@ -455,8 +456,6 @@ def main():
         for name, bodies in starved.items():
             starve(room, name, bodies)
         edits = {name: [it.name for it in starved[name]] if starved else list(edits_of(name)) for name in names}
-        if given.together and starved:
-            raise Refused("--starved makes bodies of the same functions: leave out --together")
         every = tried(room, edits, max(1, given.jobs), given.together)
         print("\n".join(it.line() for it in every), flush=True)
         tell_sums(names, every, given.table)

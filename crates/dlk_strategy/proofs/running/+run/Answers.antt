@@ -119,7 +119,8 @@ choose-run_goals-requires g t c κs within =
     let mid = c.loop-t.kernel in
     let keeps = g.met.S.Store.grows_keeps old.store mid.store c.loop-t.invariant.grows in
     let ready = back_ready trees old c.args.trace.now mid c.loop-t.trace c.args.goal 1 keeps c.requires.ready c.loop-t.invariant.back in
-    let part = part_at (trees old.store) c.args.parts.now _ c.last-item.result c.requires.runnable (omega (arith, c.in-len1-up.len_at_least)) c.last-item.is in (
+    let part = part_at (trees old.store) c.args.parts.now _ c.last-item.result c.requires.runnable
+    (omega (arith, c.in-len1-up.len_at_least)) c.last-item.is in (
       omega (
         arith,
         at_most the_size c.args.parts.now (length c.args.parts.now - 1) c.last-item.result (omega (arith, c.in-len1-up.len_at_least)),
