@@ -1,6 +1,6 @@
 -- From what was read and what was given to the clauses of a run.
 use Rattle.std.proofs.Common.{◌≡◌, ◌≢◌, ◌≤◌, ℕ, List, ◌++◌, take, Option, IsNone, ap, sym, subst, ◌∙◌, ◌⊎◌, inl, inr, arith}
-use Rattle.dlk_desk.specs.Outside.{Outside, SameFiles}
+use Rattle.dlk_desk.specs.Outside.{Outside, SameFiles, Rose}
 use Rattle.dlk_desk.specs.Desk.{OnlyReads, OnlyWrites}
 use Rattle.dlk_transfer.specs.Transfer.{GrowsByFront}
 use Rattle.dlk_replies.specs.Forms.{Word}
@@ -8,9 +8,15 @@ use Rattle.dlk_replies.specs.Inputs.{inputs, limits, output}
 use Rattle.dlk_replies.specs.Replies.{Reply, code_of}
 use Rattle.dlk.specs.Answers.{Answers}
 use Rattle.dlk.specs.Outputs.{output_with, after, WrittenInPart}
-use Rattle.dlk.specs.Runs.{AsksFor, Asks, StartsNoWrite, Keeps, GivesWhole, BreaksOff, output_to}
+use Rattle.dlk.specs.Runs.{AsksFor, Asks, StartsNoWrite, Keeps, GivesWhole, OnlyWriteFailed, BreaksOff, output_to}
 use Rattle.dlk.proofs.Asked.{asked_before}
 use Rattle.dlk.proofs.Given.{same_through, after_through, part_through, no_name, no_bytes}
+
+failed_through : (tells : Type 0) (old mid new : Outside) → OnlyReads tells old mid → OnlyWriteFailed mid new → OnlyWriteFailed old new
+failed_through tells old mid new reads failed = record {
+  cause = subst (λ (n : ℕ). Rose n new.write_faults) reads.write_faults failed.cause;
+  print_faults = failed.print_faults ∙ reads.print_faults;
+}
 
 module _ (words : List Word) (old mid new : Outside) (reply : Reply) (name : Option Word) (named : name ≡ output words)
     (answer : Answers words old.files reply) (same : SameFiles old.files mid.files) (silent : mid.printed ≡ old.printed) where
@@ -31,13 +37,16 @@ module _ (words : List Word) (old mid new : Outside) (reply : Reply) (name : Opt
     printed = printed ∙ ap (λ l. l ++ reply.printed) silent;
   }
 
-  pub breaks_off : WrittenInPart (output_with name reply.written) mid.files new.files → GrowsByFront reply.printed mid.printed new.printed →
-      SameFiles (after (output_with name reply.written) mid.files) new.files ⊎ (new.printed ≡ mid.printed) → BreaksOff words old new reply
-  breaks_off files front first = record {
+  pub breaks_off : (tells : Type 0) → OnlyReads tells old mid →
+      WrittenInPart (output_with name reply.written) mid.files new.files → GrowsByFront reply.printed mid.printed new.printed →
+      SameFiles (after (output_with name reply.written) mid.files) new.files ⊎ (new.printed ≡ mid.printed) →
+      SameFiles (after (output_with name reply.written) mid.files) new.files ⊎ OnlyWriteFailed mid new → BreaksOff words old new reply
+  breaks_off tells reads files front first kept = record {
     answer = answer;
     files = subst (λ o. WrittenInPart o old.files new.files) to_words (part_through (output_with name reply.written) old.files mid.files new.files same files);
     printed = (front.0, front.1 ∙ ap (λ l. l ++ take front.0 reply.printed) silent);
     file_first = elim first [ inl whole ↦ inl (whole_files whole) | inr none ↦ inr (none ∙ silent) ];
+    file_kept = elim kept [ inl whole ↦ inl (whole_files whole) | inr failed ↦ inr (failed_through tells old mid new reads failed) ];
   }
 
 pub grows_from : (old mid new bytes : List ℕ) → mid ≡ old → GrowsByFront bytes mid new → GrowsByFront bytes old new
@@ -48,10 +57,16 @@ no_write_through tells old mid new reads none = record {
   writing = none.writing ∙ reads.writing;
   target = λ t. none.target t ∙ reads.target t;
   files = λ t. same_through old.files mid.files new.files (reads.files t) (none.files t);
+  write_faults = none.write_faults ∙ reads.write_faults;
 }
 
 read_alone : (tells : Type 0) (old new : Outside) → OnlyReads tells old new → StartsNoWrite tells old new
-read_alone tells old new reads = record { writing = reads.writing; target = reads.target; files = reads.files }
+read_alone tells old new reads = record {
+  writing = reads.writing;
+  target = reads.target;
+  files = reads.files;
+  write_faults = reads.write_faults;
+}
 
 -- an answer was given, or a front of it
 pub keeps_given : (tells : Type 0) (words : List Word) (status : ℕ) (old mid new : Outside) (reply : Reply) (name : Option Word) → name ≡ output words →

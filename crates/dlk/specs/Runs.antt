@@ -10,13 +10,13 @@ use Rattle.dlk_replies.specs.Replies.{Reply, code_of}
 use Rattle.dlk.specs.Answers.{bytes_of, Answers}
 use Rattle.dlk.specs.Outputs.{Output, output_with, after, WrittenInPart}
 
--- On every desk: status 3 has wrong words as its cause, 4 a read fault and 5 a write fault, and no status is above 6.
+-- On every desk: status 3 has wrong words as its cause, 4 a read fault and 5 a fault of writing or of printing, and no status is above 6.
 pub record Caused (words : List Word) (status : ℕ) (old new : Outside) : Type 0 where
   pub known : status ≤ 6
   pub words_only : status ≡ 3 → IsNone (command_of words)
   pub no_form : IsNone (command_of words) → (status ≡ 3) ⊎ (status ≡ 5) ⊎ (status ≡ 6)
   pub read_fault : status ≡ 4 → Rose old.read_faults new.read_faults
-  pub write_fault : status ≡ 5 → Rose old.write_faults new.write_faults
+  pub write_fault : status ≡ 5 → Rose old.write_faults new.write_faults ⊎ Rose old.print_faults new.print_faults
 
 -- The first `count` of these inputs were asked for, in their order. Of the last of those at most one byte past its limit was taken. What
 -- was taken of an earlier one can't be seen, since a desk tells only what is left of the file being read.
@@ -32,14 +32,15 @@ pub record Asks (tells : Type 0) (words : List Word) (status : ℕ) (old new : O
   pub inputs_only : AsksFor tells (inputs words) (limits words) count old new
   pub all : IsSome (command_of words) → status < 3 → new.asked ≡ old.asked ++ inputs words
 
--- no write was started, and no file has changed
+-- no write was started or failed, and no file has changed
 pub record StartsNoWrite (tells : Type 0) (old new : Outside) : Type 0 where
   pub writing : new.writing ≡ old.writing
   pub target : tells → new.target ≡ old.target
   pub files : tells → SameFiles old.files new.files
+  pub write_faults : new.write_faults ≡ old.write_faults
 
 -- On every desk: without an output, and with status 2, no write is started. With a read fault or for want of memory nothing is
--- printed either, and the count of write faults hasn't risen.
+-- printed either, and neither the count of write faults nor that of print faults has risen.
 pub record Keeps (tells : Type 0) (words : List Word) (status : ℕ) (old new : Outside) : Type 0 where
   pub no_output : IsNone (output words) → StartsNoWrite tells old new
   pub refused : status ≡ 2 → StartsNoWrite tells old new
@@ -60,12 +61,19 @@ pub record GivesWhole (words : List Word) (status : ℕ) (old new : Outside) (re
   pub files : SameFiles (after (output_to words reply) old.files) new.files
   pub printed : new.printed ≡ old.printed ++ reply.printed
 
--- this is the answer, and a front of it was given: its file first, and what is printed behind the whole file alone
+-- a write of a file failed, and no print did
+pub record OnlyWriteFailed (old new : Outside) : Type 0 where
+  pub cause : Rose old.write_faults new.write_faults
+  pub print_faults : new.print_faults ≡ old.print_faults
+
+-- This is the answer, and a front of it was given: its file first, and what is printed behind the whole file alone. Unless writing it
+-- failed the file is whole, whatever came of printing.
 pub record BreaksOff (words : List Word) (old new : Outside) (reply : Reply) : Type 0 where
   pub answer : Answers words old.files reply
   pub files : WrittenInPart (output_to words reply) old.files new.files
   pub printed : GrowsByFront reply.printed old.printed new.printed
   pub file_first : SameFiles (after (output_to words reply) old.files) new.files ⊎ (new.printed ≡ old.printed)
+  pub file_kept : SameFiles (after (output_to words reply) old.files) new.files ⊎ OnlyWriteFailed old new
 
 -- The answer is given; or a read failed; or giving the answer failed; or memory ran out.
 abbrev pub Answered : List Word → ℕ → Outside → Outside → Type 0
@@ -75,5 +83,5 @@ Answered words status old new =
 -- Where no count rose, the answer is given, or memory ran out.
 abbrev pub Completes : List Word → ℕ → Outside → Outside → Type 0
 Completes words status old new =
-    (¬ Rose old.read_faults new.read_faults) → (¬ Rose old.write_faults new.write_faults) →
+    (¬ Rose old.read_faults new.read_faults) → (¬ Rose old.write_faults new.write_faults) → (¬ Rose old.print_faults new.print_faults) →
     ((reply : Reply) × GivesWhole words status old new reply) ⊎ (status ≡ 6)

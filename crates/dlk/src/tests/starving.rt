@@ -38,7 +38,8 @@ fn is_kept(desk: &MemoryDesk, status: u8, wanted: u8, printed: &str) -> bool {
     if desk.starved() > 0 {
         return match status {
             4 => desk.read_faults() > 0 && is_silent(desk),
-            5 => desk.write_faults() > 0 && printed.as_bytes().starts_with(desk.printed()),
+            5 => (desk.write_faults() > 0 || desk.print_faults() > 0)
+                && printed.as_bytes().starts_with(desk.printed()),
             _ => false,
         };
     }

@@ -51,6 +51,7 @@ fn reads_and_writes_real_files(rt: HostRuntime) -> Result<(), Fail> {
     assert_eq!(rt; count, 8);
     assert_eq!(rt; desk.read_faults, 1);
     assert_eq!(rt; desk.write_faults, 2);
+    assert_eq!(rt; desk.print_faults, 0);
 
     fs::remove_file(&rt, "desk_input.txt")?;
     fs::remove_file(&rt, "desk_output.txt")?;

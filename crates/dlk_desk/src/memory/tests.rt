@@ -44,6 +44,7 @@ struct Row {
     out: Option<&'static [u8]>,
     read_faults: u64,
     write_faults: u64,
+    print_faults: u64,
 }
 
 /// By hand from the rules: each call has a number, from 1, and moves at most `chunk` bytes.
@@ -66,6 +67,7 @@ const ROWS: &[Row] = &[
         out: Some(b"abcdef"),
         read_faults: 1,
         write_faults: 0,
+        print_faults: 0,
     },
     Row {
         chunk: 1,
@@ -85,6 +87,7 @@ const ROWS: &[Row] = &[
         out: Some(b"a"),
         read_faults: 1,
         write_faults: 0,
+        print_faults: 0,
     },
     Row {
         chunk: 3,
@@ -104,6 +107,7 @@ const ROWS: &[Row] = &[
         out: Some(b""),
         read_faults: 2,
         write_faults: 1,
+        print_faults: 0,
     },
     Row {
         chunk: 3,
@@ -113,7 +117,8 @@ const ROWS: &[Row] = &[
         printed: b"",
         out: Some(b"abc"),
         read_faults: 2,
-        write_faults: 1,
+        write_faults: 0,
+        print_faults: 1,
     },
     Row {
         chunk: 2,
@@ -124,6 +129,7 @@ const ROWS: &[Row] = &[
         out: None,
         read_faults: 1,
         write_faults: 1,
+        print_faults: 0,
     },
 ];
 
@@ -147,6 +153,7 @@ fn moves_pieces_and_fails_where_told(rt: HostRuntime) -> Result<(), Fail> {
         assert!(rt; desk.file("missing").is_none());
         assert_eq!(rt; desk.read_faults(), row.read_faults);
         assert_eq!(rt; desk.write_faults(), row.write_faults);
+        assert_eq!(rt; desk.print_faults(), row.print_faults);
         assert_eq!(rt; desk.starved(), 0);
     }
     Ok(())

@@ -3,7 +3,7 @@ use Rattle.dlk_replies.specs.Shown.{reply_of}
 use Rattle.dlk.specs.Headline.{JudgesTruly}
 use Rattle.dlk.proofs.Truly.{whole_truly, front_truly, silent_truly, whole_derives, front_derives, silent_derives}
 use Rattle.dlk.proofs.Judged.{answer_judges}
-use Rattle.dlk.proofs.Ran.{gives_whole, breaks_off, asks_given}
+use Rattle.dlk.proofs.Ran.{gives_whole, breaks_off, keeps_given, asks_given}
 use Rattle.dlk.specs.Looks.{LooksAtFew}
 use Rattle.dlk.proofs.Looked.{none_written, given_looked, ungiven_looked}
 use Rattle.dlk.proofs.Written.{whole_proves}
@@ -140,7 +140,8 @@ returns-clause-derived_truly g c = λ t.
     front_derives (checked_by c.proved_is_checked.ensures c.linked_is_checked.ensures.checked c.trimmed_is_checked.ensures.checked)
     (map string_bytes c.args.words.now) old new reply
     (breaks_off (map string_bytes c.args.words.now) old mid new reply (option_copied c.output.result) c.output.ensures
-    (c.in-Ok.ensures.ok t) (reads.files t) (reads.printed t) (given.part t) (given.front t) (given.file_first t))
+    (c.in-Ok.ensures.ok t) (reads.files t) (reads.printed t) g.D.Desk.tells reads
+    (given.part t) (given.front t) (given.file_first t) (given.file_kept t))
 
 pub returns-clause-closed_truly : goal.returns-clause-closed_truly
 returns-clause-closed_truly g c = λ t.
@@ -153,13 +154,21 @@ returns-clause-closed_truly g c = λ t.
     front_truly (checked_by c.proved_is_checked.ensures c.linked_is_checked.ensures.checked c.trimmed_is_checked.ensures.checked)
     (map string_bytes c.args.words.now) old new reply
     (breaks_off (map string_bytes c.args.words.now) old mid new reply (option_copied c.output.result) c.output.ensures
-    (c.in-Ok.ensures.ok t) (reads.files t) (reads.printed t) (given.part t) (given.front t) (given.file_first t))
+    (c.in-Ok.ensures.ok t) (reads.files t) (reads.printed t) g.D.Desk.tells reads
+    (given.part t) (given.front t) (given.file_first t) (given.file_kept t))
 
 pub returns-clause-asks : goal.returns-clause-asks
 returns-clause-asks g c =
     asks_given g.D.Desk.tells (map string_bytes c.args.words.now) 5 (g.D.Desk.outside c.args.desk.now) (g.D.Desk.outside c.work.new.desk)
     (g.D.Desk.outside c.give.new.desk)
     c.in-Ok.ensures.asks c.in-Ok.ensures.all c.give.ensures.only
+
+pub returns-clause-keeps : goal.returns-clause-keeps
+returns-clause-keeps g c =
+    keeps_given g.D.Desk.tells (map string_bytes c.args.words.now) 5 (g.D.Desk.outside c.args.desk.now) (g.D.Desk.outside c.work.new.desk)
+    (g.D.Desk.outside c.give.new.desk)
+    (reply_of c.in-Ok.reply) (option_copied c.output.result) c.output.ensures c.in-Ok.ensures.only c.give.ensures.none
+    (λ e. absurd (omega (arith, e))) (λ e. absurd (omega (arith, e))) (λ e. absurd (omega (arith, e)))
 
 pub returns-clause-answered : goal.returns-clause-answered
 returns-clause-answered g c = λ t has.
@@ -174,7 +183,8 @@ returns-clause-answered g c = λ t has.
       (
         reply,
         breaks_off (map string_bytes c.args.words.now) old mid new reply (option_copied c.output.result) c.output.ensures
-            (c.in-Ok.ensures.ok t) (reads.files t) (reads.printed t) (given.part t) (given.front t) (given.file_first t),
+            (c.in-Ok.ensures.ok t) (reads.files t) (reads.printed t) g.D.Desk.tells reads
+            (given.part t) (given.front t) (given.file_first t) (given.file_kept t),
       ),
     )))
 
