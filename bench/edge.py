@@ -59,8 +59,8 @@ USAGES = b"""dlk: usage, in which - is standard input:
 # how many of the words behind a command name inputs
 INPUTS = {"print": 1, "vars": 1, "convert": 1, "link": 3, "gen": 0}
 CUT = b"dlk: the answer could not be written whole\n"
-# a conjunction of so many comparisons is longer than four pieces in which the program reads
-NAMES = [f"{'a' * 70}{i:03}" for i in range(500)]
+# a conjunction of comparisons of these names to 0 is longer than three pieces of those in which a file is read
+NAMES = [f"{'a' * 270}{i:03}" for i in range(100)]
 
 faults = []
 
@@ -421,8 +421,8 @@ def main():
         # by links, since a bug that removes what it reads is to remove no device
         for device in ("zero", "full"):
             (at / device).symlink_to(f"/dev/{device}")
-        inputs(at)
         commands(at)
+        inputs(at)
         outputs(at)
         pieces(at)
         scarce(at)
