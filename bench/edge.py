@@ -96,6 +96,11 @@ def row(name, words, status, printed=b"", **options):
     said(name, (status, printed, told(status, words)), run(words, **options))
 
 
+def held(path):
+    """The bytes of a file, if it is there."""
+    return path.read_bytes() if path.is_file() else None
+
+
 def fed(words, pieces):
     """What comes of a run where standard input is a pipe that gives a few bytes at a time."""
     program = subprocess.Popen([DLK, *words], stdin=subprocess.PIPE, stdout=subprocess.PIPE, stderr=subprocess.PIPE)
@@ -146,7 +151,7 @@ def inputs(at):
     (at / "t").write_bytes(IN_FULL)
     row("names of one letter", ["check", "m", "t"], 0, REPORT, cwd=at)
     row("an output with a name of one letter", ["convert", "t", "o"], 0, REPORT, cwd=at)
-    said("is written", BY_NODES, (at / "o").read_bytes())
+    said("is written", BY_NODES, held(at / "o"))
     name = at / ("n" * 200)
     name.write_bytes(MODEL)
     row("a name of 200 bytes", ["check", name, term], 0, REPORT)
@@ -205,22 +210,22 @@ def writes(at, verb, words, status, printed, written):
     """Where a command writes, and where it doesn't; `written` is what it must write."""
     out = at / "other"
     row(f"{verb} to a name of 200 bytes", [*words, "w" * 200], status, printed, cwd=at)
-    said(f"{verb} writes it", written, (at / ("w" * 200)).read_bytes())
+    said(f"{verb} writes it", written, held(at / ("w" * 200)))
     out.write_bytes(b"an older and longer text\n" * 1000)
     row(f"{verb} to an older file", [*words, out], status, printed, cwd=at)
-    said(f"{verb} replaces it", written, out.read_bytes())
+    said(f"{verb} replaces it", written, held(out))
     row(f"{verb} to a full device", [*words, at / "full"], 5, cwd=at)
     row(f"{verb} to a folder", [*words, at], 5, cwd=at)
     row(f"{verb} to -", [*words, "-"], 5, cwd=at)
     row(f"{verb} to no such folder", [*words, at / "none" / "out"], 5, cwd=at)
     row(f"{verb} without its last word", words, 3, WORDS, cwd=at)
     row(f"{verb}, and an input isn't there", [verb, "none", *words[2:], out], 4, cwd=at)
-    said(f"{verb} leaves the older file", written, out.read_bytes())
-    out.unlink()
+    said(f"{verb} leaves the older file", written, held(out))
+    out.unlink(missing_ok=True)
     with open("/dev/full", "wb") as full:
         status, _, errors = run([*words, out], cwd=at, stdout=full)
         said(f"{verb} on a full standard output", (5, CUT), (status, errors))
-    said(f"but what {verb} writes is whole", written, out.read_bytes())
+    said(f"but what {verb} writes is whole", written, held(out))
 
 
 def outputs(at):
@@ -254,7 +259,7 @@ def small(at):
     try:
         (at / "long").write_bytes(b"nil;" * 10 + b'cut("' + b"a" * 8000 + b'>=0")')
         row("a file system that is full", ["prove", at / "model", at / "long", disk / "out"], 5)
-        wrote = (disk / "out").read_bytes()
+        wrote = held(disk / "out") or b""
         said("a front is written", True, 0 < len(wrote) <= 4096 and wrote.startswith(b"dlk 2\n"))
     finally:
         subprocess.run(["umount", disk], check=False)
@@ -294,16 +299,16 @@ def pieces(at):
     json = f'{{"conclusion":"==> {text}","goals":[],"leaves":["==> {text}"],"lines":1,"status":"closed"}}\n'.encode()
     row("a long report as JSON", ["report", *words], 0, json)
     status, _, errors = run(["convert", at / "long-term", at / "long-out"])
-    said("a long term", (0, b"", by_nodes()), (status, errors, (at / "long-out").read_bytes()))
+    said("a long term", (0, b"", by_nodes()), (status, errors, held(at / "long-out")))
     said("a pipe that is full", True, full_pipe(["report", *words], json))
     said("a pipe that takes a part first", (0, json, b""), stopped(["report", *words]))
     size = 5000
     how = {"restore_signals": False, "preexec_fn": lambda: resource.setrlimit(resource.RLIMIT_FSIZE, (size, size))}
     with open(at / "printed", "wb") as printed:
         status, _, errors = run(["report", *words], stdout=printed, **how)
-    said("a standard output that may be no longer", (5, CUT, json[:size]), (status, errors, (at / "printed").read_bytes()))
+    said("a standard output that may be no longer", (5, CUT, json[:size]), (status, errors, held(at / "printed")))
     row("an output that may be no longer", ["convert", at / "long-term", at / "long-out"], 5, **how)
-    said("has a front", by_nodes()[:size], (at / "long-out").read_bytes())
+    said("has a front", by_nodes()[:size], held(at / "long-out"))
 
 
 def by_nodes():
