@@ -152,6 +152,8 @@ def inputs(at):
     row("names of one letter", ["check", "m", "t"], 0, REPORT, cwd=at)
     row("an output with a name of one letter", ["convert", "t", "o"], 0, REPORT, cwd=at)
     said("is written", BY_NODES, held(at / "o"))
+    row("an output that is the input", ["convert", "t", "t"], 0, REPORT, cwd=at)
+    said("is written anew", BY_NODES, held(at / "t"))
     name = at / ("n" * 200)
     name.write_bytes(MODEL)
     row("a name of 200 bytes", ["check", name, term], 0, REPORT)
@@ -308,7 +310,7 @@ def pieces(at):
         status, _, errors = run(["report", *words], stdout=printed, **how)
     said("a standard output that may be no longer", (5, CUT, json[:size]), (status, errors, held(at / "printed")))
     row("an output that may be no longer", ["convert", at / "long-term", at / "long-out"], 5, **how)
-    said("has a front", by_nodes()[:size], held(at / "long-out"))
+    said("an output that may be no longer has a front", by_nodes()[:size], held(at / "long-out"))
 
 
 def by_nodes():
