@@ -170,7 +170,7 @@ def commands(at):
         "script": b"apply 1 implyR(1)\r\napply 1 close\nsave\nundo",
         "split": b"1 start ==> x>=0 -> x>=0\n2 axiom K\n3 apply 1 1 implyR(1)\n4 apply 3 1 close(1,1)\ndone\n",
         "unsound": UNSOUND, "dforall": b"1 axiom Dforall\ndone\n", "le": b"x>=0", "leaf": b"1 leaf ==> x>=0\ndone\n",
-        "p": b"p(x)", "pairs": b"p(._0)~>._0>=1",
+        "atom": b"p(x)", "pairs": b"p(._0)~>._0>=1",
     }.items():
         (at / file).write_bytes(text)
     script = b"; leaf 1\n(set-logic NRA)\n(declare-const |v.x| Real)\n(assert (not (>= |v.x| 0.0)))\n(check-sat)\n"
@@ -189,7 +189,7 @@ def commands(at):
         ("trim", ["trim", "model", "split", out], 0, REPORT, BY_NODES),
         ("print", ["print", "model"], 0, MODEL, None),
         ("vars", ["vars", "model"], 0, b"free: x\nbound: none\nmust: none\nsymbols: none\n", None),
-        ("subst", ["subst", "p", "pairs"], 0, b"x>=1\n", None),
+        ("subst", ["subst", "atom", "pairs"], 0, b"x>=1\n", None),
         ("gen", ["gen", "1"], 0, b"generated 1\nlines 15\nleaves 1\nclosed\n", None),
     ):
         out.unlink(missing_ok=True)
