@@ -251,6 +251,23 @@ def outputs(at):
     small(at)
 
 
+def closed(at):
+    """Streams that are closed before the program starts. The system gives their places to what is opened next, and no file may be taken for a stream."""
+    out = at / "closed-out"
+    for streams, ended in {
+        "<&-": (0, REPORT, b""),
+        ">&-": (5, b"", CUT),
+        "2>&-": (0, REPORT, b""),
+        ">&- 2>&-": (5, b"", b""),
+        "<&- >&- 2>&-": (5, b"", b""),
+        ">/dev/full 2>&-": (5, b"", b""),
+    }.items():
+        out.unlink(missing_ok=True)
+        said(f"prove with {streams}", ended, by_shell(["prove", at / "model", at / "strategy", out], streams))
+        said("but what it writes is whole", BY_NODES, held(out))
+    row("a term that was written so", ["check", at / "model", out], 0, REPORT)
+
+
 def small(at):
     """A file system that is full in the middle of the term, where one can be had."""
     disk = at / "disk"
@@ -431,6 +448,7 @@ def main():
         commands(at)
         inputs(at)
         outputs(at)
+        closed(at)
         pieces(at)
         scarce(at)
         words(at)

@@ -21,10 +21,14 @@ use explain::{NO_WORDS, explain};
 use run::run;
 use std::alloc::{AllocError, Global};
 use std::env;
+use std::fs::OpenOptions;
 use std::io::ErrorKind;
 use std::marker::Brand;
 use std::process::ExitCode;
 use std::sync::ledger::{Blank, Ledger};
+
+/// A folder that is there. As a file it can be neither read nor written.
+const FOLDER: &str = "/";
 
 /// All words behind the program's own name, which stands first.
 fn behind_the_name(mut all: Vec<String>) -> Vec<String>
@@ -86,6 +90,14 @@ fn exit_code(status: u8) -> ExitCode
 }
 
 fn main(rt: HostRuntime) -> ExitCode {
+    // The system gives the place of a closed standard stream to what is opened next: to a folder, so that no term stands there.
+    let mut options = OpenOptions::new();
+    options.read(true);
+    let _places = [
+        options.open(&rt, FOLDER),
+        options.open(&rt, FOLDER),
+        options.open(&rt, FOLDER),
+    ];
     let alloc = rt.alloc();
     let Ok(all) = command_line(&rt) else {
         let _ = explain(&rt, NO_WORDS, &[]);
