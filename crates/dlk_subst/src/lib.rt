@@ -10,6 +10,6 @@ mod splice;
 
 pub use dlk_sequent::{ApplyFault, Pair};
 pub use pairs::{Effect, effect_at, is_admissible, keep_admissible};
-pub use plug::plug_at;
+pub use plug::{is_clear, plug_at};
 pub use scope::Scope;
 pub use splice::splice_at;

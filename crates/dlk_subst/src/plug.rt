@@ -41,7 +41,7 @@ fn is_safe<S: Store>(store: &S, arg: Id, n: u8, scope: &Scope, kids: &[Id]) -> b
 
 /// Whether no variable of the scope is free in an argument whose dot stands in the kids. Where the scope is nothing, no argument is
 /// looked at.
-fn is_clear<S: Store>(store: &S, args: &[Id], scope: &Scope, kids: &[Id]) -> bool
+pub fn is_clear<S: Store>(store: &S, args: &[Id], scope: &Scope, kids: &[Id]) -> bool
     requires few { length args.now ≤ 8 }
     requires args { All (IsId (S.trees store.now)) args.now }
     requires scope { IsKnownScope (S.trees store.now) scope.now }
