@@ -1,18 +1,14 @@
--- What a quantifier makes nothing of.
-use Rattle.std.proofs.Common.{◌≡◌, subst, List, Some}
-use Rattle.std.proofs.lemmas.Option.{same_Some, none-some}
+-- Whether what a quantifier asks of what stands below it was answered.
+use Rattle.std.proofs.Common.{◌≡◌, ◌↔◌, Bool, true, IsTrue, refl, sym, subst, Option, None, Some}
 use Rattle.dlk_tree.specs.declared.op.Var.{Var}
 use Rattle.dlk_tree.specs.declared.op.Op.{Op}
-use Rattle.dlk_tree.specs.declared.op.Op.TheVariants as Op'
-use Rattle.dlk_tree.specs.Trees.{Tree, Forest}
-use Rattle.dlk_tree.specs.Statics.{just, plain}
-use Rattle.dlk_calculus.specs.Pairs.{Pair}
-use Rattle.dlk_calculus.specs.Subst.{IsAdmissible, SubstAt}
-use Rattle.dlk_memo.specs.Binders.{quantified}
+use Rattle.dlk_tree.specs.Trees.{Forest}
+use Rattle.dlk_tree.specs.Statics.{just}
+use Rattle.dlk_memo.specs.Binders.{quantified, Allowed, AllowsBelow}
 
--- what is substituted below a quantifier is admissible for its variable
-pub admissible_below : (pairs : List Pair) (op : Op) (old new : Forest) (t : Tree) (v : Var) → quantified op ≡ Some v → SubstAt pairs op old new t
-    → IsAdmissible pairs (just v) old
-admissible_below pairs (Op'.Forall x) old new t v is p = subst (λ w. IsAdmissible pairs (just w) old) (same_Some (plain x) v is) p.0
-admissible_below pairs (Op'.Exists x) old new t v is p = subst (λ w. IsAdmissible pairs (just w) old) (same_Some (plain x) v is) p.0
-admissible_below pairs _ old new t v is p = absurd (none-some v is)
+module _ (Admissible : (Var → Bool) → Forest → Type 0) (op : Op) (old : Forest) where
+  pub asked : (v : Var) → quantified op ≡ Some v → (b : Bool) → (IsTrue b ↔ Admissible (just v) old) → IsTrue b ↔ AllowsBelow Admissible op old
+  asked v is b h = subst (λ o. IsTrue b ↔ Allowed Admissible o old) (sym is) h
+
+  pub asks_nothing : quantified op ≡ None → IsTrue true ↔ AllowsBelow Admissible op old
+  asks_nothing is = subst (λ o. IsTrue true ↔ Allowed Admissible o old) (sym is) (λ _. tt, λ _. refl)

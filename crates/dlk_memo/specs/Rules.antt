@@ -3,20 +3,23 @@ use Rattle.std.proofs.Common.{◌≡◌, refl, sym, ap, subst, ◌∙◌, List, 
 use Rattle.std.specs.Prelude.{◌≤◌, All, if◌then◌else◌, Bool, nat_lt, ◌||◌}
 use Rattle.std.specs.List.{list_any}
 use Rattle.dlk_tree.specs.declared.op.Op.{Op}
+use Rattle.dlk_tree.specs.declared.op.Op.TheVariants as Op'
 use Rattle.dlk_tree.specs.Trees.{Tree, node, Forest, kid, sort, size, WellMade}
 use Rattle.dlk_tree.specs.Occurs.{is_hole, occurs}
 use Rattle.dlk_store.specs.declared.Id.{Id}
 use Rattle.dlk_store.specs.Stores.{IsId, tree, Keeps}
 use Rattle.dlk_store.specs.Rows.{GoesByRows}
 use Rattle.dlk_calculus.specs.Pairs.{Pair as TreePair}
-use Rattle.dlk_calculus.specs.Plug.{Plug, filled, filled_all}
-use Rattle.dlk_calculus.specs.Subst.{Subst}
+use Rattle.dlk_calculus.specs.Plug.{IsClear, Plug, PlugAt, filled, filled_all}
+use Rattle.dlk_calculus.specs.Subst.{IsAdmissible, Subst}
 use Rattle.dlk_sequent.specs.declared.subst.Pair.{Pair}
 use Rattle.dlk_sequent.specs.Substitutions.{pairs_at, AreKnownPairs}
 use Rattle.dlk_sequent.specs.Growth.{pairs_at-kept}
 use Rattle.dlk_subst.specs.Results.{args_at}
 use Rattle.dlk_subst.specs.Growth.{known_kept, pairs_kept}
 use Rattle.dlk_subst.specs.Growth.{args_kept}
+use Rattle.dlk_subst.specs.Rows.{SubstRow}
+use Rattle.dlk_memo.specs.Binders.{AllowsBelow}
 
 -- what is made of a well-made tree is of its sort
 abbrev pub KeepsSort : (Tree → Tree → Type 0) → Type 0
@@ -39,6 +42,12 @@ ready_args_kept keeps ids ready = record {
   known = known_kept keeps ids ready.known;
   keeps_sort = subst (λ args. KeepsSort (Plug args)) (sym (args_same keeps ids ready)) ready.keeps_sort;
 }
+
+-- what is plugged in below a quantifier captures nothing
+pub plug_allows : (args : List Tree) (op : Op) (old new : Forest) (t : Tree) → PlugAt args op old new t → AllowsBelow (IsClear args) op old
+plug_allows args (Op'.Forall x) old new t p = p.0
+plug_allows args (Op'.Exists x) old new t p = p.0
+plug_allows args _ old new t p = tt
 
 -- ---- a formula
 
@@ -94,6 +103,12 @@ ready_pairs_kept keeps pairs ready = record {
   known = pairs_kept keeps pairs ready.known;
   keeps_sort = subst (λ there. KeepsSort (Subst there)) (sym (pairs_same keeps pairs ready)) ready.keeps_sort;
 }
+
+-- what is substituted below a quantifier is admissible for its variable
+pub subst_allows : (pairs : List TreePair) (op : Op) (old new : Forest) (t : Tree) → SubstRow pairs op old new t → AllowsBelow (IsAdmissible pairs) op old
+subst_allows pairs (Op'.Forall x) old new t p = p.0.0
+subst_allows pairs (Op'.Exists x) old new t p = p.0.0
+subst_allows pairs _ old new t p = tt
 
 -- the symbol of a pair occurs in the tree
 abbrev pub any_occurs : List TreePair → Tree → Bool

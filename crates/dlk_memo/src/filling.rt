@@ -1,4 +1,5 @@
 //! A formula in place of `_`.
+ghost use Rattle.std.specs.Prelude.{⊤};
 ghost use Rattle.dlk_tree.specs.Trees.{Tree};
 ghost use Rattle.dlk_tree.specs.Occurs.{has_hole};
 ghost use Rattle.dlk_store.specs.Stores.{tree};
@@ -30,11 +31,15 @@ impl Rule for Filling {
 
     ghost IsReady = { λ r trees. IsReadyFormula trees r.formula };
 
+    ghost Allows = { λ f op old. ⊤ };
+
     ghost looks = { λ job. 0 };
 
     ghost may_change = { λ f t. has_hole t };
 
     ghost rows = { filling };
+
+    ghost allowed = { λ f op old new t row. tt };
 
     ghost ready_kept = { λ r old new keeps ready. ready_formula_kept keeps r.formula ready };
 
@@ -46,8 +51,8 @@ impl Rule for Filling {
         store.has_hole(id)
     }
 
-    fn refuses<S: Store>(&self, _store: &S, _op: &Op, _kids: &[Id]) -> Result<bool, AllocError> {
-        Ok(false)
+    fn allows<S: Store>(&self, _store: &S, _op: &Op, _kids: &[Id]) -> Result<bool, AllocError> {
+        Ok(true)
     }
 
     fn at<S: Store, L: Ledger>(

@@ -1,5 +1,5 @@
 //! What a walk makes of a node.
-ghost use Rattle.std.specs.Prelude.{◌≡◌, ◌+◌, ◌≤◌, ℕ, Bool, IsTrue, IfOk, All, Err, List, false};
+ghost use Rattle.std.specs.Prelude.{◌≡◌, ◌↔◌, ◌+◌, ◌≤◌, ℕ, Bool, IsTrue, IfOk, All, Err, List, false};
 ghost use Rattle.dlk_tree.specs.Table.{Fits};
 ghost use Rattle.dlk_tree.specs.Trees.{Tree, Forest, sort, WellMade};
 ghost use Rattle.dlk_tree.specs.declared.op.Op.{Op as TheOp};
@@ -31,6 +31,10 @@ pub(crate) trait Rule {
     /// When it can be followed over a store with these trees.
     ghost IsReady: { Self → List Tree → Type 0 };
 
+    /// What it asks of an operator over kids before it makes anything of them. Without that it makes nothing of the operator, whatever
+    /// it makes of the kids.
+    ghost Allows: { Job → TheOp → Forest → Type 0 };
+
     /// How many looks it takes at a node, beside the one at the node.
     ghost looks: { Job → ℕ };
 
@@ -43,11 +47,11 @@ pub(crate) trait Rule {
         ensures asked { result ≡ may_change (job self.now (S.trees store.now)) (tree (S.trees store.now) id) }
         ensures stays { result ≡ false → Makes (job self.now (S.trees store.now)) (tree (S.trees store.now) id) (tree (S.trees store.now) id) };
 
-    /// Whether it makes nothing of the operator over these kids, whatever it makes of them. It is asked before they are made.
-    fn refuses<S: Store>(&self, store: &S, op: &Op, kids: &[Id]) -> Result<bool, AllocError>
+    /// Whether the operator over these kids has what it asks before it makes anything of them.
+    fn allows<S: Store>(&self, store: &S, op: &Op, kids: &[Id]) -> Result<bool, AllocError>
         requires ready { IsReady self.now (S.trees store.now) }
         requires known { All (IsId (S.trees store.now)) kids.now }
-        ensures none { IfOk result (λ b. IsTrue b → (new : Forest) → HasNone (MakesAt (job self.now (S.trees store.now)) op.now (kid_trees (S.trees store.now) kids.now) new)) };
+        ensures asked { IfOk result (λ b. IsTrue b ↔ Allows (job self.now (S.trees store.now)) op.now (kid_trees (S.trees store.now) kids.now)) };
 
     /// What it makes of the operator over old kids, of which it made the new ones.
     fn at<S: Store, L: Ledger>(
@@ -69,6 +73,8 @@ pub(crate) trait Rule {
         ensures cost { IsTrue S.unique → steps.new ≤ steps.old + looks (job self.now (S.trees store.old)) };
 
     ghost rows: { GoesByRows Makes MakesAll MakesAt };
+
+    ghost allowed: { (job : Job) (op : TheOp) (old new : Forest) (t : Tree) → MakesAt job op old new t → Allows job op old };
 
     // It stands for the same while the store grows.
     ghost ready_kept: { (r : Self) (old new : List Tree) → Keeps old new → IsReady r old → IsReady r new };

@@ -11,8 +11,9 @@ ghost use Rattle.dlk_calculus.specs.Subst.{IsAdmissible, Subst, SubstAll};
 ghost use Rattle.dlk_sequent.specs.Substitutions.{pairs_at, AreKnownPairs};
 ghost use Rattle.dlk_subst.specs.Results.{IsResult, HasNone, args_at};
 ghost use Rattle.dlk_subst.specs.Rows.{SubstRow, substituting};
+ghost use Rattle.dlk_memo.specs.Binders.{AllowsBelow};
 ghost use Rattle.dlk_memo.specs.Looks.{subtrees, replacement_subtrees, distinct_count};
-ghost use Rattle.dlk_memo.specs.Rules.{AreReadyArgs, AreReadyPairs, ready_pairs_kept, pairs_same, any_occurs, may_occur};
+ghost use Rattle.dlk_memo.specs.Rules.{AreReadyArgs, AreReadyPairs, ready_pairs_kept, pairs_same, subst_allows, any_occurs, may_occur};
 ghost use Rattle.dlk_sequent.specs.declared.fault.ApplyFault.TheVariants.{NotAdmissible};
 
 use crate::binder::quantified;
@@ -121,11 +122,15 @@ impl Rule for Substituting<'_> {
 
     ghost IsReady = { λ r trees. AreReadyPairs trees r.pairs.now };
 
+    ghost Allows = { λ pairs op old. AllowsBelow (IsAdmissible pairs) op old };
+
     ghost looks = { λ job. distinct_count (replacement_subtrees job) };
 
     ghost may_change = { may_occur };
 
     ghost rows = { substituting };
+
+    ghost allowed = { subst_allows };
 
     ghost ready_kept = { λ r old new keeps ready. ready_pairs_kept keeps r.pairs.now ready };
 
@@ -137,10 +142,10 @@ impl Rule for Substituting<'_> {
         may_occur(store, self.pairs, id)
     }
 
-    fn refuses<S: Store>(&self, store: &S, op: &Op, kids: &[Id]) -> Result<bool, AllocError> {
+    fn allows<S: Store>(&self, store: &S, op: &Op, kids: &[Id]) -> Result<bool, AllocError> {
         match quantified(op)? {
-            Some(x) => Ok(!is_admissible(store, self.pairs, &Scope::Only(x), kids)),
-            None => Ok(false),
+            Some(x) => Ok(is_admissible(store, self.pairs, &Scope::Only(x), kids)),
+            None => Ok(true),
         }
     }
 

@@ -33,6 +33,7 @@ fn open<S: Store, L: Ledger, R: Rule>(
     requires absent { found done.old id ≡ None }
     ensures tree { IfOk result (λ r. tree (S.trees store.now) id ≡ node r.0 (kid_trees (S.trees store.now) r.1)) }
     ensures kids { IfOk result (λ r. All (IsId (S.trees store.now)) r.1) }
+    ensures allowed { IfOk result (λ r. R.Allows (R.job rule.now (S.trees store.now)) r.0 (kid_trees (S.trees store.now) r.1)) }
     ensures none { result ≡ Err NotAdmissible → HasNone (R.Makes (R.job rule.now (S.trees store.now)) (tree (S.trees store.now) id)) }
     ensures opened { OnOk result (Opened done.old done.new id steps.old steps.new) }
     ensures err { OnErr result (Opened done.old done.new id steps.old steps.new ⊎ Unopened done.old done.new steps.old steps.new) }
@@ -40,7 +41,7 @@ fn open<S: Store, L: Ledger, R: Rule>(
 {
     done.begin(id)?;
     let node = store.look(id, steps);
-    if rule.refuses(store, node.op, node.kids)? {
+    if !rule.allows(store, node.op, node.kids)? {
         return Err(ApplyFault::NotAdmissible);
     }
     let kids = Kids::from_slice(alloc, node.kids)?;

@@ -4,7 +4,7 @@ ghost use Rattle.dlk_tree.specs.Statics.{none, all, just, plain, prime, with_pri
 ghost use Rattle.dlk_tree.specs.Listed.{is_among, IsInhabited};
 ghost use Rattle.dlk_store.specs.Listings.{IsListingOf};
 ghost use Rattle.dlk_vars.specs.Tables.{number_of, Grows};
-ghost use Rattle.dlk_vars.specs.Sets.{IsWithin};
+ghost use Rattle.dlk_vars.specs.Sets.{IsWithin, IsNonempty};
 ghost use Rattle.dlk_vars.specs.Rows.{has_number};
 ghost use Rattle.dlk_shared.specs.Shapes.{own_sets, in_item, in_items};
 ghost use Rattle.dlk_tree.specs.declared.op.Op.TheVariants.{System};
@@ -312,7 +312,8 @@ impl SetTable {
     /// Whether the set is empty.
     fn is_none(&self, n: u32) -> bool
         requires { n < length self.now.sets }
-        ensures { IsTrue result → IsNone self.now n }
+        ensures some { IsNonempty (not result) (row_at self.now.sets n) }
+        ensures none { IsTrue result → IsNone self.now n }
     {
         self.set(n).is_empty()
     }

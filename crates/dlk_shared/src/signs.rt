@@ -1,8 +1,9 @@
 //! Signatures, each kept once.
-ghost use Rattle.std.specs.Prelude.{◌≡◌, ◌<◌, ◌||◌, ◌∷◌, [], false, length, IfOk, IsTrue, All, Some, slice_get};
+ghost use Rattle.std.specs.Prelude.{◌≡◌, ◌<◌, ◌||◌, ◌∷◌, [], false, not, length, IfOk, IsTrue, All, Some, slice_get};
 ghost use Rattle.std.specs.List.{list_any};
 ghost use Rattle.dlk_tree.specs.Occurs.{constants, has_symbol};
 ghost use Rattle.dlk_tree.specs.Tests.{sym_eq};
+ghost use Rattle.dlk_vars.specs.Sets.{IsNonempty};
 ghost use Rattle.dlk_shared.specs.SetTables.{row_at};
 ghost use Rattle.dlk_shared.specs.Signs.{sign_at, IsSign, HasNone, Signs, KeepsSigns, AreSymbols};
 
@@ -93,7 +94,8 @@ impl SignTable {
     /// Whether the signature has no symbol.
     fn is_none(&self, n: u32) -> bool
         requires { n < length self.now.signs }
-        ensures { IsTrue result → HasNone self.now n }
+        ensures some { IsNonempty (not result) (row_at self.now.signs n) }
+        ensures none { IsTrue result → HasNone self.now n }
     {
         self.sign(n).is_empty()
     }

@@ -19,13 +19,13 @@ returns-then-a-b-clause-signs c =
 pub returns-then-is_none-clause-signs : goal.returns-then-is_none-clause-signs
 returns-then-is_none-clause-signs c =
     let old = c.args.self.now in
-    let none = c.is_none.ensures c.if-is_none.true in
+    let none = c.is_none.ensures.none c.if-is_none.true in
     record { is = c.requires.first; members = λ s. sym (ap (λ x. sign_at old c.args.a s || x) (none.none s) ∙ or-false (sign_at old c.args.a s)) }
 
 pub returns-then-is_none-2-clause-signs : goal.returns-then-is_none-2-clause-signs
 returns-then-is_none-2-clause-signs c =
     let old = c.args.self.now in
-    let none = c.is_none-2.ensures c.if-is_none-2.true in
+    let none = c.is_none-2.ensures.none c.if-is_none-2.true in
     record { is = c.requires.second; members = λ s. sym (ap (λ x. x || sign_at old c.args.b s) (none.none s)) }
 
 pub returns-clause-signs : goal.returns-clause-signs
