@@ -1,5 +1,5 @@
 -- Whether what a quantifier asks of what stands below it was answered.
-use Rattle.std.proofs.Common.{◌≡◌, ◌↔◌, Bool, true, IsTrue, refl, sym, subst, Option, None, Some}
+use Rattle.std.proofs.Common.{◌≡◌, ◌↔◌, Bool, true, IsTrue, refl, sym, subst, None, Some}
 use Rattle.dlk_tree.specs.declared.op.Var.{Var}
 use Rattle.dlk_tree.specs.declared.op.Op.{Op}
 use Rattle.dlk_tree.specs.Trees.{Forest}
