@@ -31,7 +31,7 @@ fn reads_and_writes_real_files(rt: HostRuntime) -> Result<(), Fail> {
     let input = read_to_end(alloc, &mut desk)?;
     assert_eq!(rt; input.as_slice(), b"some bytes\n".as_slice());
     assert!(rt; desk.start_read("desk_missing.txt").is_err());
-    assert_eq!(rt; desk.read_faults, 1);
+    assert_eq!(rt; desk.faults.reads, 1);
     assert_eq!(rt; desk.asked.len(), 1);
 
     fs::write(&rt, "desk_output.txt", "an older text")?;
@@ -42,16 +42,16 @@ fn reads_and_writes_real_files(rt: HostRuntime) -> Result<(), Fail> {
     assert_eq!(rt; count, 2);
     assert!(rt; desk.start_write("-").is_err());
     assert!(rt; desk.start_write("desk_missing/output.txt").is_err());
-    assert_eq!(rt; desk.write_faults, 2);
+    assert_eq!(rt; desk.faults.writes, 2);
     let count = desk.append(b"f")?;
     assert_eq!(rt; count, 1);
     let output = fs::read(&rt, "desk_output.txt")?;
     assert_eq!(rt; output.as_slice(), b"abcdef".as_slice());
     let count = desk.print(b"printed\n")?;
     assert_eq!(rt; count, 8);
-    assert_eq!(rt; desk.read_faults, 1);
-    assert_eq!(rt; desk.write_faults, 2);
-    assert_eq!(rt; desk.print_faults, 0);
+    assert_eq!(rt; desk.faults.reads, 1);
+    assert_eq!(rt; desk.faults.writes, 2);
+    assert_eq!(rt; desk.faults.prints, 0);
 
     fs::remove_file(&rt, "desk_input.txt")?;
     fs::remove_file(&rt, "desk_output.txt")?;
@@ -65,14 +65,14 @@ fn tells_faults_of_devices(rt: HostRuntime) -> Result<(), Fail> {
     desk.start_write("/dev/full")?;
     assert!(rt; desk.append(b"abc").is_err());
     assert!(rt; desk.start_write("/").is_err());
-    assert_eq!(rt; desk.write_faults, 2);
+    assert_eq!(rt; desk.faults.writes, 2);
 
     desk.start_read("/")?;
     let mut piece = *b"kept";
     assert!(rt; desk.read(&mut piece).is_err());
     assert_eq!(rt; piece, *b"kept");
     assert!(rt; desk.start_read("/dev/full/none").is_err());
-    assert_eq!(rt; desk.read_faults, 2);
+    assert_eq!(rt; desk.faults.reads, 2);
     assert_eq!(rt; desk.asked.len(), 1);
     Ok(())
 }
