@@ -371,3 +371,39 @@ fn proves_while_each_call_fails(rt: HostRuntime) -> Result<(), Fail> {
     }
     Ok(())
 }
+
+/// Each command that writes a file, with pieces of seven bytes, while each call in turn fails. Where that call prints, the status is 5, and the
+/// file is that of the run in which none fails. In each run all is done before the hundredth call.
+#[test]
+fn keeps_the_file_where_printing_fails(rt: HostRuntime) -> Result<(), Fail> {
+    let alloc = rt.alloc();
+    let files = [
+        ("model", b"x>=0".as_slice()),
+        ("term", b"1 start ==> x>=0\ndone\n".as_slice()),
+        ("strategy", b"leaf".as_slice()),
+        ("script", b"save\n".as_slice()),
+        ("out", b"old".as_slice()),
+    ];
+    for (words, status) in [
+        (&["prove", "model", "strategy", "out"].as_slice(), 0),
+        (&["convert", "term", "out"].as_slice(), 1),
+        (&["link", "model", "term", "term", "out"].as_slice(), 1),
+        (&["trim", "model", "term", "out"].as_slice(), 1),
+        (&["session", "model", "script", "out"].as_slice(), 1),
+    ] {
+        let mut whole = desk_with(alloc, &files, 7, &[])?;
+        assert_eq!(rt; status_of(alloc, words, &mut whole)?, status);
+        let mut failed = 0usize;
+        for call in 1..100 {
+            let mut desk = desk_with(alloc, &files, 7, &[call])?;
+            let status = status_of(alloc, words, &mut desk)?;
+            if desk.print_faults() > 0 {
+                failed = failed.saturating_add(1);
+                assert_eq!(rt; status, 5, "call {call}");
+                assert_eq!(rt; desk.file("out"), whole.file("out"), "call {call}");
+            }
+        }
+        assert_eq!(rt; failed, whole.printed().len().div_ceil(7));
+    }
+    Ok(())
+}

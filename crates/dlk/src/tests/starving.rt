@@ -100,8 +100,12 @@ fn answers_whole_or_nothing(rt: HostRuntime) -> Result<(), Fail> {
         let mut desk = desk_with(alloc, &text, second)?;
         let ended = status_of(alloc, words, &mut desk)?;
         assert!(rt; is_kept(&desk, ended, status, printed), "{second}");
-        let is_written = ended == status && words.len() == 4;
-        assert!(rt; ended == 5 || has_term(&desk, is_written), "{second}");
+        // A file is written whole before anything is printed.
+        let is_written = (ended == status || desk.print_faults() > 0) && words.len() == 4;
+        assert!(rt;
+            desk.write_faults() > 0 || has_term(&desk, is_written),
+            "{second}"
+        );
     }
     Ok(())
 }
