@@ -1,5 +1,5 @@
 -- The axioms that were named before, with the ids of their formulas.
-use Rattle.std.specs.Prelude.{◌≡◌, ℕ, List, Some, All}
+use Rattle.std.specs.Prelude.{◌≡◌, ℕ, List, Some, All, Any}
 use Rattle.dlk_tree.specs.Trees.{Tree}
 use Rattle.dlk_store.specs.declared.Id.{Id}
 use Rattle.dlk_store.specs.Stores.{StandsFor}
@@ -15,3 +15,7 @@ pub record IsFormulaOf (trees : List Tree) (name : List ℕ) (id : Id) : Type 0 
 -- so do all of these
 abbrev pub AreFormulas : List Tree → List NamedFormula → Type 0
 AreFormulas trees all = All (λ (n : NamedFormula). IsFormulaOf trees n.name n.formula) all
+
+-- one of these has the name
+abbrev pub IsNamed : List NamedFormula → List ℕ → Type 0
+IsNamed all name = Any (λ (n : NamedFormula). n.name ≡ name) all

@@ -1,11 +1,11 @@
 //! The axioms that were named before: the formula of each is made once.
-ghost use Rattle.std.specs.Prelude.{◌≡◌, [], List, IfOk};
+ghost use Rattle.std.specs.Prelude.{◌≡◌, ◌↔◌, [], ℕ, List, IsSome, IfOk};
 ghost use Rattle.std.specs.Option.{IsSomeAnd};
 ghost use Rattle.dlk_tree.specs.Trees.{Tree};
 ghost use Rattle.dlk_calculus.specs.Axioms.{Axiom, axiom_named};
 ghost use Rattle.dlk_store.specs.Stores.{StandsFor};
 ghost use Rattle.dlk_axioms.specs.Answers.{Finds};
-ghost use Rattle.dlk_kernel.specs.Named.{IsFormulaOf, AreFormulas};
+ghost use Rattle.dlk_kernel.specs.Named.{IsFormulaOf, AreFormulas, IsNamed};
 
 use dlk_store::{Id, Store, StoreFault};
 use dlk_tree::Name;
@@ -44,9 +44,10 @@ impl NamedAxioms {
         }
     }
 
-    /// The formula of the axiom of this name, if it was named before.
+    /// The formula of the axiom of this name, exactly if it was named before.
     fn find(&self, name: &Name) -> Option<Id>
-        ensures { (trees : List Tree) → AreFormulas trees self.now → (id : Id) → result ≡ Some id → IsFormulaOf trees name.now id }
+        ensures found { (trees : List Tree) → AreFormulas trees self.now → (id : Id) → result ≡ Some id → IsFormulaOf trees name.now id }
+        ensures named { IsSome result ↔ IsNamed self.now name.now }
     {
         for named in &self.all {
             if named.name.bytes() == name.bytes() {
@@ -57,6 +58,9 @@ impl NamedAxioms {
     }
 
     /// The formula of the axiom of this name: made before, or made now. `None` comes exactly where no axiom has the name.
+    ///
+    /// A name that is there already changes neither the store nor the table; one whose formula is made now is there from then on, and
+    /// none is ever lost.
     pub(crate) fn formula<S: Store>(
         &mut self,
         alloc: Global,
@@ -66,6 +70,10 @@ impl NamedAxioms {
         requires { AreFormulas (S.trees store.old) self.old }
         ensures axiom { IfOk result (Finds (λ (a : Axiom) id. StandsFor (S.trees store.new) id a.formula) (axiom_named name.now)) }
         ensures named { AreFormulas (S.trees store.new) self.new }
+        ensures once { IsNamed self.old name.now → store.new ≡ store.old }
+        ensures same { IsNamed self.old name.now → self.new ≡ self.old }
+        ensures put { IfOk result (λ found. IsSome found → IsNamed self.new name.now) }
+        ensures kept { (other : List ℕ) → IsNamed self.old other → IsNamed self.new other }
         ensures grows { S.grows store.old store.new }
     {
         if let Some(formula) = self.find(name) {

@@ -7,7 +7,7 @@ use Rattle.dlk_kernel.proofs.axioms.NamedAxioms.formula.Goals as goal
 
 pub returns-in-Some-clause-axiom : goal.returns-in-Some-clause-axiom
 returns-in-Some-clause-axiom g c =
-    let h = c.find.ensures (g.S.Store.trees c.args.store.now) c.requires c.in-Some.formula c.in-Some.is in
+    let h = c.find.ensures.found (g.S.Store.trees c.args.store.now) c.requires c.in-Some.formula c.in-Some.is in
     (h.found, h.named, h.stands)
 
 pub returns-in_err-push-clause-named : goal.returns-in_err-push-clause-named
