@@ -5,6 +5,7 @@
     python3 tools/edits.py [NAME ..] --together
     python3 tools/edits.py [NAME ..] --look
     python3 tools/edits.py [NAME ..] --starved [--together | --look]
+    python3 tools/edits.py [NAME ..] --silent [--together | --look]
     python3 tools/edits.py --consistent [NAME ..] [--room FOLDER] [--jobs N] [--look]
 
 An edit is a file that makes the code of a crate wrong. Those that tell most stand in `crates/NAME/must-fail/`, and the gate tries them; the
@@ -35,6 +36,8 @@ takes a moment, and is to be done whenever code changed. The exit status is then
 With --starved bodies are made and tried in place of those in the folders: in each a refusal becomes want of memory, one refusal a body, wherever
 a function can answer both. One that isn't refused is no fault by itself: an allocation may come first, and want of memory is free then. With
 --look the refusals are only listed, each with its place and the function that it stands in.
+
+With --silent the bodies are those of `tools/silent/NAME/`, of which no clause was thought to speak. One that isn't refused is what was thought.
 
 With --consistent the names are those of changes in `tools/consistent/`, or none for all. Each makes one mistake in a definition and in the code
 alike, which no proof sees, and the documents, the examples and the tests have to: `tools/consistent.py` says how they are tried. It takes a build
@@ -67,6 +70,7 @@ import rounds
 
 TOP = Path(__file__).resolve().parent.parent
 FOLDERS = ("must-fail", "edits")
+SILENT = TOP / "tools" / "silent"
 AHEAD = re.compile(r"rt: \w+(?: proved| NOT PROVED| is kept|: its tests are|: trying its|: \d+ of its)")
 SAID = re.compile(r"rt: must-fail (\w+)/(\S+)\.edit: (.*)")
 PLACE = re.compile(r"\b((?:src|specs|proofs)/\S+?:\d+:\d+)")
@@ -116,11 +120,11 @@ def crates():
     return {name.split()[0]: below.split() for name, below in rows}
 
 
-def edits_of(crate):
-    """The edits of a crate, by name."""
+def edits_of(crate, silent=False):
+    """The edits of a crate by name, or its bodies of which no clause was thought to speak."""
     found = {}
-    for folder in FOLDERS:
-        for edit in sorted((TOP / "crates" / crate / folder).glob("*.edit")):
+    for folder in [SILENT / crate] if silent else [TOP / "crates" / crate / it for it in FOLDERS]:
+        for edit in sorted(folder.glob("*.edit")):
             if edit.stem in found:
                 raise Refused(f"{crate} has two edits named {edit.stem}")
             found[edit.stem] = edit
@@ -194,13 +198,14 @@ def list_starved(every):
     print(f"{sum(map(len, every.values()))} refusals in {sum(map(bool, every.values()))} crates")
 
 
-def chosen(names):
-    """The crates whose edits are tried, lowest first."""
+def chosen(names, silent=False):
+    """The edits that are tried, by crate, lowest first: of the named crates that have some, or of all."""
     every = crates()
     for name in names:
         if name not in every:
             raise Refused(f"{name} is no crate of crates.txt")
-    return [name for name in every if (not names or name in names) and edits_of(name)]
+    found = {name: edits_of(name, silent) for name in every if not names or name in names}
+    return {name: edits for name, edits in found.items() if edits}
 
 
 def with_those_below(names):
@@ -227,9 +232,9 @@ def room_of(folder, kind="edits"):
     return room
 
 
-def copy(room, names):
+def copy(room, edits):
     """Puts the crates and what they stand on into the room as they are here, and the edits of the crates where the gate finds them."""
-    every = with_those_below(names)
+    every = with_those_below(edits)
     for folder in sorted((room / "crates").glob("*")):
         if folder.name not in every:
             shutil.rmtree(folder)
@@ -243,11 +248,11 @@ def copy(room, names):
             if part.name != "out":
                 shutil.rmtree(part) if part.is_dir() else part.unlink()
         shutil.copytree(TOP / "crates" / name, copied, ignore=shutil.ignore_patterns("out", *FOLDERS), dirs_exist_ok=True)
-    for name in names:
+    for name, files in edits.items():
         folder = room / "crates" / name / "must-fail"
         shutil.rmtree(folder, ignore_errors=True)
         folder.mkdir()
-        for edit, file in edits_of(name).items():
+        for edit, file in files.items():
             shutil.copyfile(file, folder / f"{edit}.edit")
 
 
@@ -386,9 +391,9 @@ def fault(crate, edit):
     return "" if texts else "it changes nothing"
 
 
-def look(names):
+def look(edits):
     """Says which edits can't be applied, and whether there are none."""
-    faults = [(name, edit, fault(name, path)) for name in names for edit, path in edits_of(name).items()]
+    faults = [(name, edit, fault(name, path)) for name, files in edits.items() for edit, path in files.items()]
     for name, edit, why in faults:
         if why:
             print(f"{name}/{edit}: {why}")
@@ -438,6 +443,7 @@ def main():
     words.add_argument("--together", action="store_true", help="many in one check, each in another function")
     words.add_argument("--look", action="store_true", help="only say which edits can't be applied")
     words.add_argument("--starved", action="store_true", help="bodies that answer want of memory in place of a refusal")
+    words.add_argument("--silent", action="store_true", help="bodies of which no clause was thought to speak")
     words.add_argument("--consistent", action="store_true", help="changes of a definition and of its code together")
     given = words.parse_args()
     try:
@@ -447,18 +453,21 @@ def main():
         if given.look and given.starved:
             list_starved(starved)
             return 0
+        edits = {} if given.starved else chosen(given.names, given.silent)
         if given.look:
-            return 0 if look(chosen(given.names)) else 1
+            return 0 if look(edits) else 1
+        if not edits and not starved:
+            raise Refused("there is nothing to try")
         if shutil.which("rt") is None:
             raise Refused("there is no rt on the path: edits are tried with the Rattle toolchain")
-        names, room = list(starved) or chosen(given.names), room_of(given.room)
-        copy(room, names)
+        room = room_of(given.room)
+        copy(room, edits or dict.fromkeys(starved, {}))
         for name, bodies in starved.items():
             starve(room, name, bodies)
-        edits = {name: [it.name for it in starved[name]] if starved else list(edits_of(name)) for name in names}
+        edits = edits or {name: [it.name for it in bodies] for name, bodies in starved.items()}
         every = tried(room, edits, max(1, given.jobs), given.together)
         print("\n".join(it.line() for it in every), flush=True)
-        tell_sums(names, every, given.table)
+        tell_sums(list(edits), every, given.table)
         return 0 if all(it.kind in KINDS[:2] for it in every) else 1
     except (Refused, OSError) as why:
         print(f"edits.py: {why}", file=sys.stderr)
