@@ -393,6 +393,7 @@ fn keeps_the_file_where_printing_fails(rt: HostRuntime) -> Result<(), Fail> {
     ] {
         let mut whole = desk_with(alloc, &files, 7, &[])?;
         assert_eq!(rt; status_of(alloc, words, &mut whole)?, status);
+        assert!(rt; whole.file("out") != Some(b"old".as_slice()));
         let mut failed = 0usize;
         for call in 1..100 {
             let mut desk = desk_with(alloc, &files, 7, &[call])?;
