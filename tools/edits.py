@@ -16,7 +16,7 @@ They are tried as the gate tries its own, in a copy of these crates and of those
 below TMPDIR, --jobs of them at a time, or as many as there are processors. What the crates stand on is proved first. Where the toolchain has
 `rt ci NAME ..`, that is what runs; where it has only a gate for all crates, `rt must-fail NAME` runs, crate by crate. What was proved or tried
 before isn't done again while the files are the same: so a run that was broken off goes on where it was, crate by crate, when it is started
-again.
+again. A run with --silent or --starved in the same folder takes the place of what was tried before.
 
 Behind the run a line an edit says what came of it:
 
@@ -37,7 +37,8 @@ With --starved bodies are made and tried in place of those in the folders: in ea
 a function can answer both. One that isn't refused is no fault by itself: an allocation may come first, and want of memory is free then. With
 --look the refusals are only listed, each with its place and the function that it stands in.
 
-With --silent the bodies are those of `tools/silent/NAME/`, of which no clause was thought to speak. One that isn't refused is what was thought.
+With --silent the bodies are those of `tools/silent/NAME/`, of which no clause was thought to speak. One that isn't refused is what
+was thought, so the exit status is 1 as a rule; what is refused belongs into `edits/`.
 
 With --consistent the names are those of changes in `tools/consistent/`, or none for all. Each makes one mistake in a definition and in the code
 alike, which no proof sees, and the documents, the examples and the tests have to: `tools/consistent.py` says how they are tried. It takes a build
@@ -447,6 +448,8 @@ def main():
     words.add_argument("--consistent", action="store_true", help="changes of a definition and of its code together")
     given = words.parse_args()
     try:
+        if given.silent + given.starved + given.consistent > 1:
+            raise Refused("--silent, --starved and --consistent are three ways: name one")
         if given.consistent:
             return try_consistent(given)
         starved = refusals_of(given.names) if given.starved else {}
