@@ -137,7 +137,7 @@ class Table(Batch):
     def test_control_c_ends_all(self):
         self.solver("z3", "unsat")
         script, asked = self.solvers / "z3", self.folder / "asked"
-        script.write_text(script.read_text().replace("cat >/dev/null", f"echo $$ >> {asked}; exec sleep 60"))
+        script.write_text(script.read_text().replace("cat >/dev/null", f"echo $$ >> {asked}; exec /bin/sleep 60"))
         for name in ("one", "two", "three"):
             self.proof(name, INCREMENT, CLOSES_INCREMENT)
         for number in (signal.SIGINT, signal.SIGTERM):
