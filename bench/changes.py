@@ -2,13 +2,16 @@
 """What the program answers to examples that were changed at random, always in the same way.
 
     python3 bench/changes.py                          10,000 terms with one byte changed, for `check`, in each version
-    python3 bench/changes.py --count N [--seed S]     N changes of strategies, models and terms of every example
+    python3 bench/changes.py --count N [--seed S] [--parts PART ..]
+                                                      N changes of strategies, models and terms of every example, or of these parts
 
 With --count the examples are all folders of `examples/` that have a model, those of the gallery and of the tutorial too, and the models of
 `examples/models`. A term that isn't there is what `prove` writes. In turn a strategy, a model or a term is changed: a byte becomes
 another one, or a word or a mark becomes another one of the same text, is left out, or stands twice. A changed strategy is run on the
 model; a changed model is printed, proved by the strategy, and checked with the term; a changed term is checked. Then `check` must say of each
-term that `prove` writes what `prove` said. Where a changed term of version 2 isn't in the grammar, the first wrong line must be the one that tools/terms.py
+term that `prove` writes what `prove` said. The parts may be `script` and `lemma`, too: a script of `session` runs the strategy, goes back, runs it again,
+and saves, and what is saved must be a term of so many lines for `check`; a lemma is the term, which `link` puts into the place of the model's one goal, and
+`check` must say of the whole what `link` said. Where a changed term of version 2 isn't in the grammar, the first wrong line must be the one that tools/terms.py
 says, unless a line before it is no step of the calculus.
 
 Each answer must be one of those that `docs/FILES.md` and `docs/STRATEGIES.md` list, with its status, and nothing may be accepted with
@@ -43,6 +46,13 @@ STRATEGY = re.compile(r"refused: strategy at \d+: (syntax|nesting|repeat|unknown
 FAILS = re.compile(r"refused: fails at \d+: (WrongCount|NoMatch|" + "|".join(REASONS) + r")\n")
 BUDGET = re.compile(r"refused: budget at \d+\n")
 TOO_LONG = re.compile(r"refused: term-too-long \d+\n")
+SCRIPT = re.compile(r"refused: script line [1-9]\d*()\n")
+LEMMA = re.compile(r"refused: lemma line [1-9]\d*: (" + "|".join(REASONS) + r")\n")
+UNLINKED = re.compile(r"refused: (?:no-goal|link: (GoalsFull|LeavesFull|LinesFull))\n")
+WHYS = "|".join(("WrongCount", "NoMatch", *REASONS))
+REPORTED = r"open|closed|(?:goals|leaves|lines) \d+|(?:conclusion|goal \d+|leaf \d+) .*"
+REPLY = re.compile(rf"ok goals \d+|fails at \d+: (?:{WHYS})|budget at \d+|no-goal|nothing|saved \d+|{REPORTED}")
+PARTS = ("strategy", "model", "term")
 PIECE = re.compile(rb"\w+|\s+|[^\w\s]")
 
 
@@ -187,6 +197,45 @@ class Desk:
             raise Fault(f"prove said {status}, {printed[:200]!r}, and check of its term {checked[0]}, {checked[1][:200]!r}")
         return self.report_kind("prove", status, printed, model)
 
+    def session(self, model, script):
+        """Whether `session` saved a term for these texts. What it saved is a term of as many lines as it said last."""
+        saved = self.folder / "saved"
+        saved.unlink(missing_ok=True)
+        status, printed = self.run("session", self.file("model", model), self.file("script", script), saved)
+        if status not in (0, 1):
+            if saved.exists():
+                raise Fault(f"session: status {status}, and a term was written")
+            return refused("session", status, printed, (MODEL, SCRIPT, TOO_LONG))
+        lines = printed.splitlines()
+        wrong = [line for line in lines if not REPLY.fullmatch(line)]
+        if wrong:
+            raise Fault(f"session: no reply is {wrong[0][:200]!r}")
+        counts = [line.split()[1] for line in lines if line.startswith("saved ")]
+        if saved.exists() != bool(counts):
+            raise Fault(f"session: saved {counts}, and a file {'is' if saved.exists() else 'is not'} there")
+        if counts:
+            status, printed = self.run("check", self.folder / "model", saved)
+            if status not in (0, 1) or not printed.endswith(f"\nlines {counts[-1]}\n"):
+                raise Fault(f"session saved {counts[-1]} steps, and check says {printed[:200]!r}")
+            return f"saved, {self.report_kind('check', status, printed, model)}"
+        return "nothing is saved"
+
+    def link(self, model, lemma):
+        """A word for the answer of `link` where the lemma is to prove the model's one goal. What it wrote is checked, and must have the same report."""
+        conclusion = self.conclusion(model).removeprefix("conclusion ")
+        whole = self.folder / "whole"
+        whole.unlink(missing_ok=True)
+        term, other = self.file("term", f"1 start {conclusion}\ndone\n".encode()), self.file("lemma", lemma)
+        status, printed = self.run("link", self.file("model", model), term, other, whole)
+        if status not in (0, 1):
+            if whole.exists():
+                raise Fault(f"link: status {status}, and a term was written")
+            return refused("link", status, printed, (LEMMA, UNLINKED, TOO_LONG))
+        checked = self.run("check", self.folder / "model", whole)
+        if checked != (status, printed):
+            raise Fault(f"link said {status}, {printed[:200]!r}, and check of its term {checked[0]}, {checked[1][:200]!r}")
+        return self.report_kind("link", status, printed, model)
+
 
 def refused(verb, status, printed, forms):
     """A word for a refusal, which must have one of these forms."""
@@ -206,6 +255,10 @@ def examples_in(desk):
         if "term" not in texts:
             desk.prove(texts["model"], texts["strategy"])
             texts["term"] = (desk.folder / "proof").read_bytes()
+        texts["lemma"] = texts["term"]
+        if "strategy" in texts:
+            run = b"apply 1 " + b" ".join(texts["strategy"].split())
+            texts["script"] = b"\n".join((run, b"undo", run, b"show", b"save", b""))
         yield Example(str(folder.relative_to(TOP / "examples")), texts)
     for model in sorted((TOP / "examples" / "models").iterdir()):
         yield Example(f"models/{model.name}", {"model": model.read_bytes()})
@@ -242,17 +295,21 @@ def answers_to(desk, part, texts):
         yield "prove", desk.prove(texts["model"], texts["strategy"])
     if part in ("model", "term") and "term" in texts:
         yield "check", desk.check(texts["model"], texts["term"])
+    if part == "script":
+        yield "session", desk.session(texts["model"], texts["script"])
+    if part == "lemma":
+        yield "link", desk.link(texts["model"], texts["lemma"])
 
 
-def change_all(count, seed):
-    """Changes a text of an example, so many times, and prints how often each command gave each answer. The parts of all examples have
+def change_all(count, seed, parts):
+    """Changes a text of an example, so many times, and prints how often each command gave each answer. These parts of all examples have
     their turns, one after another."""
     chance = random.Random(seed)
     answers = collections.Counter()
     with tempfile.TemporaryDirectory() as name:
         desk = Desk(pathlib.Path(name))
         examples = list(examples_in(desk))
-        turns = [(example, part) for part in ("strategy", "model", "term") for example in examples if part in example.texts]
+        turns = [(example, part) for part in parts for example in examples if part in example.texts]
         for k in range(count):
             example, part = turns[k % len(turns)]
             text, how = changed(chance, example.texts[part])
@@ -271,13 +328,15 @@ def main():
     parser = argparse.ArgumentParser(description="What the program answers to examples that were changed at random.")
     parser.add_argument("--count", type=int, help="changes of strategies, models and terms of every example (none: of terms alone)")
     parser.add_argument("--seed", type=int, default=1, help="where the changes begin (1)")
+    every = (*PARTS, "script", "lemma")
+    parser.add_argument("--parts", nargs="+", choices=every, default=PARTS, help="which texts are changed, with --count (strategy model term)")
     options = parser.parse_args()
     if options.count is None:
         change_terms(1)
         if knows("convert"):
             change_terms(2)
     else:
-        change_all(options.count, options.seed)
+        change_all(options.count, options.seed, options.parts)
 
 
 if __name__ == "__main__":
