@@ -46,7 +46,7 @@ STRATEGY = re.compile(r"refused: strategy at \d+: (syntax|nesting|repeat|unknown
 FAILS = re.compile(r"refused: fails at \d+: (WrongCount|NoMatch|" + "|".join(REASONS) + r")\n")
 BUDGET = re.compile(r"refused: budget at \d+\n")
 TOO_LONG = re.compile(r"refused: term-too-long \d+\n")
-SCRIPT = re.compile(r"refused: script line [1-9]\d*()\n")
+SCRIPT = re.compile(r"refused: script line [1-9]\d*\n")
 LEMMA = re.compile(r"refused: lemma line [1-9]\d*: (" + "|".join(REASONS) + r")\n")
 UNLINKED = re.compile(r"refused: (?:no-goal|link: (GoalsFull|LeavesFull|LinesFull))\n")
 WHYS = "|".join(("WrongCount", "NoMatch", *REASONS))
@@ -329,14 +329,16 @@ def main():
     parser.add_argument("--count", type=int, help="changes of strategies, models and terms of every example (none: of terms alone)")
     parser.add_argument("--seed", type=int, default=1, help="where the changes begin (1)")
     every = (*PARTS, "script", "lemma")
-    parser.add_argument("--parts", nargs="+", choices=every, default=PARTS, help="which texts are changed, with --count (strategy model term)")
+    parser.add_argument("--parts", nargs="+", choices=every, help="which texts are changed, with --count (strategy model term)")
     options = parser.parse_args()
+    if options.parts and options.count is None:
+        parser.error("--parts wants --count")
     if options.count is None:
         change_terms(1)
         if knows("convert"):
             change_terms(2)
     else:
-        change_all(options.count, options.seed, options.parts)
+        change_all(options.count, options.seed, options.parts or PARTS)
 
 
 if __name__ == "__main__":
