@@ -10,7 +10,7 @@ from common import TOP, knows
 
 sys.path.insert(0, str(TOP / "tools"))
 sys.setrecursionlimit(60_000)
-import terms  # noqa: E402  (behind the path)
+from dlkt import terms  # noqa: E402  (behind the path)
 
 # The commands whose second text is a term, the one whose first is, and those that write a file.
 REPLAYING, CONVERTING, WRITING = ("check", "report", "smt", "guard", "trim", "link"), ("convert",), ("prove", "convert", "trim", "link", "session")

@@ -1,0 +1,223 @@
+"""What looks wrong in a model or a strategy, though the program takes it. A hint says where and what, and never changes a verdict."""
+
+import difflib
+import re
+from typing import NamedTuple
+
+from dlkt import strategies as strategytext
+from dlkt.calculus import AXIOMS, LIBRARY, OTHER_WORDS, PREMISES, is_word
+from dlkt.program import answer, at_top, split_list
+
+MARK_OF_ORDER = b"\xef\xbb\xbf"
+COMMENT = re.compile(rb"/\*.*?\*/|//[^\n]*", re.DOTALL)
+TOKEN = re.compile(r"\\?[A-Za-z][A-Za-z0-9_]*")
+BRACKET = re.compile(r"\s*[({]")
+KEYWORDS = ("true", "false", "\\forall", "\\exists", "term", "invariant")
+# Functions that other provers know, and that are symbols like any other here.
+UNKNOWN_FUNCTIONS = ("abs", "min", "max")
+ARCHIVE = re.compile(
+    rb"\b(ArchiveEntry|Theorem|Lemma|Exercise|SharedDefinitions|Definitions|ProgramVariables|Problem|Tactic|Variables|Functions|End)\b\s*"
+    rb"(?:\"|\.|\n|\r)"
+)
+# What a word of another prover is here.
+OTHER_PROVERS = {
+    "QE": "leaf", "auto": "prop", "unfold": "(step(1) | andR(1) | implyR(1) | skolemR(1))*20", "id": "close", "ODE": "dC, dI and dW",
+    "assignb": "step", "composeb": "step", "choiceb": "step", "testb": "step", "randomb": "step", "allR": "skolemR", "existsL": "skolemL",
+    "diffInvariant": "dC and dI", "GV": "useAt(V,P)", "abstractionb": "useAt(V,P)", "solve": "useAt(DS,P)",
+}
+
+
+class Hint(NamedTuple):
+    """A hint: the file that it is of (`model`, `strategy` or `term`), the byte, and what it says."""
+
+    file: str
+    byte: int
+    text: str
+
+
+def blanked(data):
+    """The text of a file with blanks for its comments, one character a byte."""
+    return COMMENT.sub(lambda found: re.sub(rb"[^\n]", b" ", found[0]), data).decode("latin-1")
+
+
+def near(name, names):
+    """A hint at a name that is written nearly so."""
+    found = difflib.get_close_matches(name, names, 1, 0.6)
+    return f"; is {found[0]} meant?" if found else ""
+
+
+class Names(NamedTuple):
+    """The names of a text of the language of models, with their bytes: variables, and symbols with brackets behind them."""
+
+    variables: dict
+    symbols: dict
+
+
+def names_of(text, begin=0):
+    """The names of a text; each with the byte at which it stands first."""
+    variables, symbols = {}, {}
+    for found in TOKEN.finditer(text):
+        before = text[max(0, found.start() - 20) : found.start()].rstrip()
+        if found[0] in KEYWORDS or before.endswith(("._", "@")):
+            continue
+        is_bound = before.endswith(("\\forall", "\\exists"))
+        kind = symbols if BRACKET.match(text, found.end()) and not is_bound else variables
+        kind.setdefault(found[0], begin + found.start())
+    return Names(variables, symbols)
+
+
+def of_files(model, strategy, term):
+    """Hints at the bytes of the files: marks of order, line ends, and an archive."""
+    for file, data in (("model", model), ("strategy", strategy), ("term", term or b"")):
+        if data.startswith(MARK_OF_ORDER):
+            yield Hint(file, 0, "the file begins with a byte order mark, which no text of dlk has: save it as UTF-8 without one")
+    if term and b"\r\n" in term:
+        yield Hint("term", term.index(b"\r\n"), "the term has line ends of Windows, which check refuses: only a line feed ends a line")
+    found = ARCHIVE.search(COMMENT.sub(lambda it: b" " * len(it[0]), model))
+    if found:
+        word = found[1].decode()
+        yield Hint("model", found.start(1), f"{word} is a keyword of archives: a model of dlk is the formula of the problem alone")
+
+
+def of_axioms(tree):
+    """Hints at names of axioms that are none: a choice or a repeat passes over their refusal."""
+    for atom in strategytext.atoms(tree):
+        if atom.name in ("useAt", "useBack") and atom.arguments and atom.arguments[0].text not in AXIOMS:
+            first = atom.arguments[0]
+            yield Hint("strategy", first.begin, f"there is no axiom {first.text}{near(first.text, AXIOMS)}")
+
+
+def of_words(tree):
+    """Hints at words that are none."""
+    words = [*PREMISES, *LIBRARY, *OTHER_WORDS]
+    for atom in strategytext.atoms(tree):
+        if not is_word(atom.name):
+            other = OTHER_PROVERS.get(atom.name)
+            meant = f"; in its place stands {other}" if other else near(atom.name, words)
+            axiom = f"; the axiom is used by useAt({atom.name},P)" if atom.name in AXIOMS and not other else ""
+            yield Hint("strategy", atom.begin, f"there is no word {atom.name}{axiom or meant}")
+
+
+def introduced(tree):
+    """The names that a strategy brings in: those of bound variables that get another name, of ghosts, those that it is given, and those
+    that axioms have."""
+    names = {"x_", "y_", "t_", "s_"}
+    for atom in strategytext.atoms(tree):
+        if atom.name in ("boundL", "boundR", "dG"):
+            names |= {it.text for it in atom.arguments if it.kind == "name"}
+        if atom.name in ("useAt", "useBack"):
+            for it in atom.arguments[2:]:
+                names |= set(re.findall(r"~~\s*(\w+)", it.text))
+    return names
+
+
+def texts_of(atom):
+    """The texts in quotes of an atom that are of the language of models, each with its first byte. Of a text of pairs only the right sides
+    are, whose symbols are the axiom's own on the left."""
+    for it in atom.arguments:
+        if it.kind != "text":
+            continue
+        begin = it.begin + 1
+        if atom.name not in ("useAt", "useBack"):
+            yield it.text, begin
+            continue
+        marks = [0, *(at + 1 for at, _ in at_top(it.text, [","])), len(it.text) + 1]
+        for start, end in zip(marks, marks[1:]):
+            _, arrow, right = it.text[start : end - 1].partition("~>")
+            if arrow:
+                yield right, begin + end - 1 - len(right)
+
+
+def bound_in(text):
+    """The names that quantifiers and programs of a text bind."""
+    return set(re.findall(r"\\(?:forall|exists)\s+(\w+)", text)) | set(re.findall(r"(\w+)\s*'?\s*:?=(?!=)", text) if "[" in text else ())
+
+
+def of_names(model, tree):
+    """Hints at names that stand in the strategy and not in the model."""
+    known, brought, told = names_of(blanked(model)), introduced(tree), set()
+    for atom in strategytext.atoms(tree):
+        for text, begin in texts_of(atom):
+            found = names_of(text, begin)
+            for name, byte in [*found.variables.items(), *found.symbols.items()]:
+                is_symbol = found.symbols.get(name) == byte
+                wanted = known.symbols if is_symbol else known.variables
+                if name in wanted or name in brought or name in bound_in(text) or (name, is_symbol) in told:
+                    continue
+                told.add((name, is_symbol))
+                yield Hint("strategy", byte, f"{name}{'()' if is_symbol else ''} isn't in the model{instead(name, is_symbol, known)}")
+
+
+def instead(name, is_symbol, known):
+    """What the model has in place of a name."""
+    if not is_symbol and name in known.symbols:
+        return f", which has {name}(): with brackets it is a constant, without them a variable"
+    if is_symbol and name in known.variables:
+        return f", which has {name}: without brackets it is a variable, with them a constant"
+    return near(name, known.symbols if is_symbol else known.variables)
+
+
+def of_functions(model, tree):
+    """Hints at functions of other provers."""
+    for name, byte in names_of(blanked(model)).symbols.items():
+        if name in UNKNOWN_FUNCTIONS:
+            yield Hint("model", byte, said_of_function(name))
+    for atom in strategytext.atoms(tree) if tree else ():
+        for text, begin in texts_of(atom):
+            for name, byte in names_of(text, begin).symbols.items():
+                if name in UNKNOWN_FUNCTIONS:
+                    yield Hint("strategy", byte, said_of_function(name))
+
+
+def said_of_function(name):
+    """What a function of other provers is here."""
+    how = {"abs": "abs(x)<=k is -k<=x&x<=k", "min": "min(x,y)>=k is x>=k&y>=k", "max": "max(x,y)<=k is x<=k&y<=k"}[name]
+    return f"{name} is a symbol like any other, of which nothing is known: write it out, as {how}"
+
+
+def of_constants(program, path, model, tree):
+    """Hints at variables that no program of the model changes, where the strategy has a `dI`, which wants constants in brackets."""
+    if not any(atom.name == "dI" or (atom.arguments and atom.arguments[0].text == "DI") for atom in strategytext.atoms(tree)):
+        return
+    said = answer(program, "vars", path).text.split("\n")
+    sets = {line.partition(": ")[0]: set(line.partition(": ")[2].split(", ")) for line in said}
+    known = names_of(blanked(model)).variables
+    for name in sorted(sets.get("free", set()) - sets.get("bound", set())):
+        if name in known:
+            text = f"no program changes {name}, and a dI of a formula with it isn't guarded: a constant is written {name}()"
+            yield Hint("model", known[name], text)
+
+
+def needed_constant(pairs):
+    """The variables that a use of `DI` with these pairs needs constant: those of its formula that its system doesn't evolve, and of which
+    the domain doesn't say that they stand still."""
+    replaced = dict(part.split("~>", 1) for part in split_list(pairs) if "~>" in part)
+    system, domain, formula = (replaced.get(symbol, "") for symbol in ("{c}", "q(||)", "p(||)"))
+    evolved = set(re.findall(r"(\w+)'\s*=", system))
+    still = set(re.findall(r"(\w+)'=0(?![\d.*/^+-])", domain))
+    return [name for name in names_of(formula).variables if name not in evolved | still and name not in bound_in(formula)]
+
+
+def of_invariants(lines, words, *told):
+    """Hints at each `dI` of a term that needs a variable constant, but for those told, as bytes and names. `words` says which word made
+    which line."""
+    told = set(told)
+    for number, ((word, rest), (next_word, pairs)) in enumerate(zip(lines, lines[1:]), 1):
+        made = words[number - 1] if number <= len(words) else None
+        if (word, rest, next_word) != ("axiom", "DI", "subst") or made is None:
+            continue
+        for name in needed_constant(pairs.partition(" ")[2]):
+            if (made[0], name) not in told:
+                told.add((made[0], name))
+                yield Hint("strategy", made[0], f"{made[1]} needs {name} constant, which is a variable that its equations don't change")
+
+
+def hints(program, model_path, model, strategy, term, is_guarded):
+    """All hints that need no proof. Of a guarded one no variable need be constant."""
+    found = [*of_files(model, strategy, term)]
+    try:
+        tree = strategytext.read(strategy.decode("latin-1"))
+    except strategytext.Wrong:
+        return [*found, *of_functions(model, None)]
+    found += [*of_axioms(tree), *of_words(tree), *of_names(model, tree), *of_functions(model, tree)]
+    return found if is_guarded else [*found, *of_constants(program, model_path, model, tree)]

@@ -1,0 +1,335 @@
+"""Reads term files of both versions, and writes them in either: docs/FILES.md has the two forms.
+
+A step is the text of its line with the places of its trees left out, and these trees. In version 1 a line has the texts of its trees, in version 2
+the numbers of their nodes. Of a file of version 2 each line is looked at as `check` does it, but whether a step is one of the calculus is for
+the program alone. A file of version 1 is read as the tools always read it: what stands in its lines is left as it is where no tree is wanted.
+Nothing of this is proved.
+"""
+
+import re
+from typing import NamedTuple
+
+from dlkt import reader as texts
+from dlkt.calculus import PREMISES
+from dlkt.program import Refused
+from dlkt.trees import DETAILS, FORMULA, NAME, ROWS, SYMBOL, Trees, fits, is_small, may_replace, pair_text, sequent_text, text
+
+HEAD, END = "dlk 2", "done"
+NUMBER = "[1-9][0-9]{0,8}"
+# The words of rules by what stands in their brackets; each other rule has one place.
+WITH_FORMULA, WITH_NAME, WITH_PLACES = ("cut", "cutL", "cutR"), ("boundL", "boundR"), ("close", "exchangeL", "exchangeR")
+ONE_PLACE = "|".join(name for name in PREMISES if name not in (*WITH_FORMULA, *WITH_NAME, *WITH_PLACES))
+
+NODE_LINE = re.compile(rf"node ({NUMBER}) ([a-z]+)(.*)", re.DOTALL)
+STEP_LINE = re.compile(rf"({NUMBER}) ([a-z]+) (.*)", re.DOTALL)
+KIDS = re.compile(rf"(?: {NUMBER})*")
+SIDES = re.compile(rf"((?:{NUMBER} )*)==>((?: {NUMBER})*)")
+PLAIN = {
+    "axiom": re.compile(NAME),
+    "rule": re.compile(NAME),
+    "merge": re.compile(f"{NUMBER} {NUMBER} {NUMBER}"),
+    "rename": re.compile(f"{NUMBER} {NAME} {NAME}"),
+}
+PLAIN_RULE = re.compile(
+    rf"{NUMBER} {NUMBER} (?:(?:{ONE_PLACE})\({NUMBER}\)|(?:{'|'.join(WITH_NAME)})\({NUMBER},{NAME}\)"
+    rf"|(?:{'|'.join(WITH_PLACES)})\({NUMBER},{NUMBER}\))"
+)
+CUT = re.compile(rf"({NUMBER} {NUMBER} (?:cut\(|cut[LR]\({NUMBER},))(.*)\)", re.DOTALL)
+SUBST = re.compile(rf"({NUMBER}) (.*)", re.DOTALL)
+PAIR = re.compile(rf"({SYMBOL})~>({NUMBER})")
+
+
+class Wrong(Refused):
+    """The first wrong line of a term, as `check` names it: its place in the file, and why."""
+
+    def __init__(self, place, why):
+        super().__init__(f"line {place}: {why}")
+        self.place, self.why = place, why
+
+
+class Malformed(Exception):
+    """A line that has none of the forms."""
+
+
+class Step(NamedTuple):
+    """A step: its number, the line of the file on which it stands, its word, what stands behind the word and before its trees, and those: two
+    lists (`start`, `leaf`), a list of symbols with a tree each (`subst`), a tree (a rule with a formula), or none."""
+
+    number: int
+    place: int
+    word: str
+    rest: str
+    trees: object = None
+
+
+class Term(NamedTuple):
+    """A term file: its version, its steps, and how many nodes it has, or none in version 1."""
+
+    version: int
+    steps: list
+    nodes: int | None
+
+
+def decoded(data):
+    """The text of a file, a character a byte."""
+    return data if isinstance(data, str) else data.decode("latin-1")
+
+
+def lines_of(data):
+    """The lines of a file. The last line feed may be missing."""
+    lines = decoded(data).split("\n")
+    return lines if lines[-1] else lines[:-1]
+
+
+def version_of(data):
+    """The version of a term file, which its first line tells."""
+    return 2 if decoded(data).split("\n", 1)[0] == HEAD else 1
+
+
+# Reading version 2
+
+class Nodes:
+    """The nodes of a file of version 2 so far: trees, numbered from 1."""
+
+    def __init__(self):
+        self.trees, self.known, self.by_number = Trees(), set(), []
+
+    def numbered(self, number):
+        """The tree of a node."""
+        if not 1 <= int(number) <= len(self.by_number):
+            raise Malformed
+        return self.by_number[int(number) - 1]
+
+    def formula(self, number):
+        """The formula of a node."""
+        tree = self.numbered(number)
+        if tree.sort != FORMULA:
+            raise Malformed
+        return tree
+
+    def read(self, word, rest):
+        """The tree of a node line, of which this is the word and what stands behind it."""
+        row, detail = ROWS.get(word), ""
+        if row is None:
+            raise Malformed
+        if row.detail:
+            found = re.match(f" ({DETAILS[row.detail]})(?: |$)", rest)
+            if found is None or not re.fullmatch(DETAILS[row.detail], found[1]):
+                raise Malformed
+            detail, rest = found[1], rest[found.end(1) :]
+        if not KIDS.fullmatch(rest):
+            raise Malformed
+        kids = tuple(map(self.numbered, rest.split()))
+        if not fits(word, detail, kids):
+            raise Malformed
+        tree = self.trees.make(word, detail, *kids)
+        if id(tree) in self.known or not is_small(tree):
+            raise Malformed
+        return tree
+
+    def add(self, tree):
+        """Makes a tree the next node."""
+        self.known.add(id(tree))
+        self.by_number.append(tree)
+
+
+def sides_by_nodes(nodes, rest):
+    """The trees of a sequent by its nodes."""
+    found = SIDES.fullmatch(rest)
+    if found is None:
+        raise Malformed
+    return tuple([nodes.formula(number) for number in side.split()] for side in found.groups())
+
+
+def pairs_by_nodes(nodes, rest):
+    """The pairs of a substitution by their nodes."""
+    pairs, at = [], 0
+    while at < len(rest):
+        at += bool(pairs)
+        found = PAIR.match(rest, at)
+        if found is None or rest[found.end() : found.end() + 1] not in ("", ",") or rest[found.end() :] == ",":
+            raise Malformed
+        symbol, tree = found[1], nodes.numbered(found[2])
+        if not may_replace(symbol, tree):
+            raise Malformed
+        pairs.append((symbol, tree))
+        at = found.end()
+    return pairs
+
+
+def node_of_cut(nodes, rest):
+    """The formula of a cut by its node."""
+    if not re.fullmatch(f"#{NUMBER}", rest):
+        raise Malformed
+    return nodes.formula(rest[1:])
+
+
+def step_of(number, place, word, rest, sides, pairs, formula):
+    """The step of a line, by three readers of its trees."""
+    if word in ("start", "leaf"):
+        return Step(number, place, word, "", sides(rest))
+    if word == "subst":
+        found = SUBST.fullmatch(rest)
+        if found is None:
+            raise Malformed
+        return Step(number, place, word, found[1], pairs(found[2]))
+    if word == "apply":
+        found = CUT.fullmatch(rest)
+        if found:
+            return Step(number, place, word, found[1], formula(found[2]))
+    pattern = PLAIN_RULE if word == "apply" else PLAIN.get(word)
+    if pattern is None or not pattern.fullmatch(rest):
+        raise Malformed
+    return Step(number, place, word, rest)
+
+
+def read_version_2(lines):
+    """The term of these lines, of which the first is the head."""
+    nodes, steps = Nodes(), []
+
+    def take(place, line):
+        """Takes a line; whether it ends the term."""
+        if line == END:
+            if not steps:
+                raise Malformed
+            return True
+        found = NODE_LINE.fullmatch(line)
+        if found:
+            tree = nodes.read(found[2], found[3])
+            if int(found[1]) != len(nodes.by_number) + 1:
+                raise Wrong(place, "WrongNumber")
+            nodes.add(tree)
+            return False
+        found = STEP_LINE.fullmatch(line)
+        if found is None:
+            raise Malformed
+        readers = (lambda rest: sides_by_nodes(nodes, rest), lambda rest: pairs_by_nodes(nodes, rest), lambda rest: node_of_cut(nodes, rest))
+        step = step_of(int(found[1]), place, found[2], found[3], *readers)
+        if step.number != len(steps) + 1:
+            raise Wrong(place, "WrongNumber")
+        steps.append(step)
+        return False
+
+    for place, line in enumerate(lines[1:], 2):
+        try:
+            is_end = take(place, line)
+        except Malformed:
+            raise Wrong(place, "Malformed") from None
+        if is_end:
+            if place < len(lines):
+                raise Wrong(place + 1, "Malformed")
+            return Term(2, steps, len(nodes.by_number))
+    raise Wrong(len(lines) + 1, "NoEnd")
+
+
+# Reading version 1
+
+def read_version_1(lines):
+    """The term of these lines, each with the texts of its trees."""
+    trees, steps = Trees(), []
+    readers = (lambda rest: texts.sequent(rest, trees), lambda rest: texts.pairs(rest, trees), lambda rest: texts.formula(rest, trees))
+    for place, line in enumerate(lines, 1):
+        if line == END and steps:
+            if place < len(lines):
+                raise Wrong(place + 1, "Malformed")
+            return Term(1, steps, None)
+        found = STEP_LINE.fullmatch(line)
+        try:
+            if found is None:
+                raise Malformed
+            step = step_of(int(found[1]), place, found[2], found[3], *readers)
+        except (Malformed, texts.Wrong):
+            raise Wrong(place, "Malformed") from None
+        if step.number != place:
+            raise Wrong(place, "WrongNumber")
+        steps.append(step)
+    raise Wrong(len(lines) + 1, "NoEnd")
+
+
+def read(data):
+    """The term of a file of either version. Refused at its first wrong line."""
+    lines = lines_of(data)
+    return read_version_2(lines) if version_of(data) == 2 else read_version_1(lines)
+
+
+# Writing
+
+def line_in_full(step):
+    """The line of a step in version 1, with canonical texts."""
+    if step.word in ("start", "leaf"):
+        return f"{step.number} {step.word} {sequent_text(*step.trees)}"
+    if step.word == "subst":
+        return f"{step.number} subst {step.rest} {','.join(pair_text(*pair) for pair in step.trees)}"
+    if step.trees is not None:
+        return f"{step.number} apply {step.rest}{text(step.trees)})"
+    return f"{step.number} {step.word} {step.rest}"
+
+
+def in_version_1(term):
+    """The canonical file of version 1 of these steps."""
+    return "".join(f"{line_in_full(step)}\n" for step in term.steps) + f"{END}\n"
+
+
+def trees_in(step):
+    """The trees of a step, in the order in which they are written."""
+    if step.word in ("start", "leaf"):
+        return [*step.trees[0], *step.trees[1]]
+    if step.word == "subst":
+        return [tree for _, tree in step.trees]
+    return [] if step.trees is None else [step.trees]
+
+
+class Numbering:
+    """Numbers the nodes of a file of version 2 as they are needed, kids before parents and left before right."""
+
+    def __init__(self):
+        self.numbers, self.lines = {}, []
+
+    def add(self, tree):
+        """Gives each part of a tree that has none yet a node."""
+        waiting = [tree]
+        while waiting:
+            here = waiting[-1]
+            lacking = [] if id(here) in self.numbers else [kid for kid in here.kids if id(kid) not in self.numbers]
+            if lacking:
+                waiting.append(lacking[0])
+                continue
+            waiting.pop()
+            if id(here) not in self.numbers:
+                self.numbers[id(here)] = len(self.numbers) + 1
+                detail = f" {here.detail}" if here.detail else ""
+                kids = "".join(f" {self.numbers[id(kid)]}" for kid in here.kids)
+                self.lines.append(f"node {len(self.numbers)} {here.word}{detail}{kids}")
+
+    def of(self, trees):
+        """The numbers of these trees."""
+        return [str(self.numbers[id(tree)]) for tree in trees]
+
+    def line(self, step):
+        """The line of a step, whose trees have nodes."""
+        if step.word in ("start", "leaf"):
+            return f"{step.number} {step.word} {' '.join([*self.of(step.trees[0]), '==>', *self.of(step.trees[1])])}"
+        if step.word == "subst":
+            pairs = ",".join(f"{symbol}~>{number}" for (symbol, _), number in zip(step.trees, self.of(trees_in(step))))
+            return f"{step.number} subst {step.rest} {pairs}"
+        if step.trees is not None:
+            return f"{step.number} apply {step.rest}#{self.of([step.trees])[0]})"
+        return f"{step.number} {step.word} {step.rest}"
+
+
+def in_version_2(term):
+    """The canonical file of version 2 of these steps."""
+    nodes, lines = Numbering(), [HEAD]
+    for step in term.steps:
+        nodes.lines = lines
+        for tree in trees_in(step):
+            nodes.add(tree)
+        lines.append(nodes.line(step))
+    return "".join(f"{line}\n" for line in [*lines, END])
+
+
+# For the tools that want the lines of version 1
+
+def readable(data):
+    """The text of a term in version 1: one of version 2 is written anew, any other is left as it is."""
+    return in_version_1(read(data)) if version_of(data) == 2 else decoded(data)

@@ -1,0 +1,81 @@
+"""Tests of tools/leaves.py with solvers that say what the test wants."""
+
+import json
+import unittest
+
+import helping
+from dlkt.commands import leaves
+from dlkt import program as proving
+from helping import CLOSES_INCREMENT, Case, INCREMENT, PROGRAM, needs_program
+
+
+class Computing(unittest.TestCase):
+    def test_exponents(self):
+        self.assertEqual(leaves.folded("x^(2-1)*y^(3-1)>=z^(1-1)"), ("x^1*y^2>=z^(1-1)", [("^(2-1)", "^1"), ("^(3-1)", "^2")]))
+        self.assertIsNone(leaves.computed("1/0"))
+
+    def test_one_formula(self):
+        self.assertEqual(leaves.implication("x>0, y>0 ==> z>0"), "((x>0)&(y>0)) -> ((z>0))".replace("((z>0))", "((z>0))"))
+        self.assertEqual(leaves.implication(" ==> "), "(true) -> (false)")
+
+    def test_several_answers(self):
+        valid, false, unknown = ("valid", {}), ("false", {"x": "1"}), ("unknown", {})
+        self.assertEqual(leaves.verdict([valid, unknown]), valid)
+        self.assertEqual(leaves.verdict([valid, false]), unknown)
+        self.assertEqual(leaves.verdict_of_both([valid, unknown]), unknown)
+        self.assertEqual(leaves.verdict_of_both([valid, valid]), valid)
+        self.assertEqual(leaves.verdict_of_both([unknown, false]), false)
+
+
+@needs_program
+class Asking(Case):
+    def setUp(self):
+        super().setUp()
+        self.model = self.file("model", INCREMENT)
+        self.term = str(self.folder / "term")
+        proving.answer(PROGRAM, "prove", self.model, self.file("strategy", CLOSES_INCREMENT), self.term)
+
+    def ask(self, *words):
+        return self.tool("leaves", self.model, self.term, *words)
+
+    def test_valid(self):
+        self.solver("z3", "unsat")
+        self.assertEqual((self.ask().returncode, self.ask().stdout), (0, "leaf 1: valid\n"))
+
+    def test_false_with_values(self):
+        self.solver("z3", "sat", "((define-fun |v.x| () Real (- 1.0)))")
+        self.assertEqual((self.ask().returncode, self.ask().stdout), (1, "leaf 1: false at x=-1\n"))
+
+    def test_both_are_wanted(self):
+        self.solver("z3", "unsat")
+        self.solver("cvc5", "unknown")
+        run = self.ask("--both")
+        self.assertEqual((run.returncode, run.stdout), (1, "leaf 1: unknown, for z3 says valid, cvc5 says unknown\n"))
+        told = json.loads(self.ask("--both", "--json").stdout)
+        self.assertEqual((told["all_valid"], told["leaves"][0]["answer"]), (False, "unknown"))
+        self.solver("cvc5", "unsat")
+        self.assertEqual(self.ask("--both").stdout, "leaf 1: valid\n")
+
+    def test_nonsense(self):
+        for lines in (["sat", ")))"], ["sat", "((define-fun (x) () Real 1) (define-fun |v.x| () Real ()))"]):
+            self.solver("z3", *lines)
+            self.assertEqual(self.ask().returncode, 1, lines)
+        self.solver("z3", "unsat")
+        script = self.solvers / "z3"
+        script.write_text(script.read_text() + "kill -9 $$\n")
+        self.assertEqual((self.ask().returncode, self.ask().stdout), (1, "leaf 1: unknown\n"))
+        self.assertEqual((self.ask("--dlk", "/bin/true").returncode, self.ask("--seconds", "0").returncode), (2, 2))
+
+    def test_no_solver(self):
+        run = self.ask()
+        self.assertEqual((run.returncode, run.stderr), (2, "dlkt leaves: no solver is there: install z3 or cvc5\n"))
+
+    def test_no_proof(self):
+        self.solver("z3", "unsat")
+        for term in ("nope", self.file("bad", "1 start ==> x>=0\n"), str(self.folder)):
+            run = self.tool("leaves", self.model, term)
+            self.assertEqual((run.returncode, run.stdout, run.stderr.count("\n")), (2, "", 1))
+
+
+if __name__ == "__main__":
+    unittest.main()
