@@ -6,11 +6,12 @@ from pathlib import Path
 
 from helping import ROOT
 
-from dlkt import reader
-from dlkt.layout import laid_out, laid_out_sequent
+from dlkt import reader, strategies
+from dlkt.layout import comments_in, laid_out, laid_out_sequent, laid_out_strategy
 from dlkt.reader import Note
 from dlkt.trees import FORMULA, PROGRAM, TERM, Trees, sequent_text, text
 
+STRATEGIES = sorted(ROOT.glob("examples/**/strategy"))
 MODELS = sorted([*ROOT.glob("examples/**/model"), *(file for file in ROOT.glob("examples/models/*") if file.is_file())])
 CAR = """\
   0 <= v & v <= M() & B() > 0 & ep() > 0 & v*v <= 2*B()*(S()-x)
@@ -181,6 +182,76 @@ class Sequents(unittest.TestCase):
         said = "\n".join(line[9:] for line in lines)
         self.assertIs(reader.model(said.partition("==>")[2], trees)[0], car)
         self.assertEqual(sequent_text([], [car]), f"==> {text(car)}")
+
+
+def bare(node):
+    """A strategy without its bytes, and without brackets round an atom."""
+    if isinstance(node, strategies.Atom):
+        return node.name, tuple((argument.kind, argument.text) for argument in node.arguments)
+    if isinstance(node, strategies.Repeat):
+        return "repeat", bare(node.body), node.times
+    if isinstance(node, strategies.Sequence) and len(node.parts) == 1:
+        return bare(node.parts[0])
+    return (type(node).__name__, *map(bare, node.parts))
+
+
+def words_of(comments):
+    """The words of comments."""
+    return [" ".join(comment.lines).split() for comment in comments]
+
+
+class Strategies(unittest.TestCase):
+    """Strategies of this checkout, and random ones."""
+
+    def check(self, source, width=100):
+        """Lays a strategy out, and reads it back."""
+        node = strategies.read(source)
+        said = laid_out_strategy(node, source, width)
+        self.assertEqual(bare(strategies.read(said)), bare(node))
+        self.assertEqual(words_of(comments_in(said)), words_of(comments_in(source)))
+        self.assertEqual(laid_out_strategy(strategies.read(said), said, width), said)
+        return said
+
+    def test_each_reads_back_the_same(self):
+        self.assertGreater(len(STRATEGIES), 40)
+        for file in STRATEGIES:
+            for width in (100, 40):
+                with self.subTest(file=str(file.relative_to(ROOT)), width=width):
+                    self.check(file.read_text(encoding="latin-1"), width)
+
+    def test_that_of_the_car_is_as_it_was_written(self):
+        source = Path(ROOT / "examples/tutorial/car/strategy").read_text(encoding="latin-1")
+        self.assertEqual(self.check(source), source.rstrip("\n"))
+
+    def test_comments(self):
+        source = '/* a */ implyR(1); /* b */\nstep(1) /* c */;\n /* d\n    e */\n<(leaf, /* f */\n cut("x>0 /* no */") /* g */) /* h */\n'
+        self.assertEqual(
+            self.check(source).split("\n"),
+            ["/* a */", "implyR(1); /* b */", "step(1); <(", "  /* c */", "  /* d", "     e */", "  leaf, /* f */", '  cut("x>0 /* no */")', "  /* g */", ") /* h */"],
+        )
+
+    def grown(self, chance, depth):
+        """A random strategy's text."""
+        kind = chance.choice(["atom", "sequence", "choice", "repeat", "branch", "brackets"]) if depth else "atom"
+        if kind == "atom":
+            return chance.choice(["nil", "close", "implyR(1)", "useAt(V, 1)", "cut(\"x>=0 & y>=0\")", "andL('L)", "rename(x, y, -1.0.1)", "dW(1)"])
+        inside = [self.grown(chance, depth - 1) for _ in range(chance.randint(2, 4))]
+        blank = chance.choice([" ", "\n", "  /* why */ ", "/* so\n  it is */\n"])
+        if kind == "sequence":
+            return f";{blank}".join(f"({part})" for part in inside)
+        if kind == "choice":
+            return f"({f')|{blank}('.join(inside)})"
+        if kind == "repeat":
+            return f"({inside[0]})*3*2"
+        if kind == "branch":
+            return f"({inside[0]});{blank}<({f',{blank}'.join(inside[1:])}); close"
+        return f"(({inside[0]}))"
+
+    def test_random_ones_read_back_the_same(self):
+        for seed in range(1000):
+            with self.subTest(seed=seed):
+                chance = random.Random(seed)
+                self.check(self.grown(chance, chance.randint(1, 5)), chance.choice([30, 100]))
 
 
 if __name__ == "__main__":

@@ -1,20 +1,25 @@
-"""Lays out formulas, programs, terms and sequents for people: line breaks and indentation follow the structure of programs.
+"""Lays out formulas, programs, terms, sequents and strategies for people: line breaks and indentation follow the structure.
 
 What is laid out is read as the same tree, with the same annotations. In comes a tree with the annotations of its programs, as `reader.model`
-gives them; out comes a text with lines of the wanted width where that can be. Nothing of this is proved.
+gives them, or a strategy, as `strategies.read` gives it; out comes a text with lines of the wanted width where that can be. Nothing of this is
+proved.
 
 A text is first a document of parts (`Doc`), in which a group stays on one line where it fits there, and else has all its own lines broken.
 """
 
+import re
 from typing import Iterable, NamedTuple, Sequence, Union
 
+from dlkt import strategies
 from dlkt.reader import Note
+from dlkt.strategies import Atom, Branch, Choice, Repeat
 from dlkt.trees import BRACKETS, FORMULA, PROGRAM, ROWS, TERM, Tree, evolves, text, unit_text
 
 WIDTH = 100
 STEP = 2
 SHORT = 24  # letters of a term that is never broken
 MOST_CHOICE = 48  # letters of a choice that stays on one line
+MOST_BRANCH = 40  # letters of a branch that stays on one line
 NEVER = 1_000_000  # the width of what stays on no line
 CHAINS = {"and": "&", "or": "|"}
 ARROWS = {"imply": "->", "equiv": "<->"}
@@ -143,6 +148,11 @@ def filled(parts: Sequence[Doc], between: Doc = "") -> Doc:
 def bracketed(opening: str, inside: Doc, closing: str) -> Group:
     """A document between brackets, which have lines of their own where it doesn't fit on one."""
     return group(opening, Nest(STEP, (Line(""), inside)), Line(""), closing)
+
+
+def kept(doc: Doc, most: int) -> Doc:
+    """A document that has lines of its own where it has more letters than so many."""
+    return doc if width_of(doc) <= most else Group(doc.parts if isinstance(doc, Group) else doc, NEVER)
 
 
 def opened(doc: Doc) -> Doc:
@@ -293,7 +303,7 @@ class Layout:
         if word == "choice":
             first, *others = [Nest(1, group(part)) for _, part in parts]
             doc = (Pad(" "), first, *((Nest(-STEP, Line(" ")), "++ ", part) for part in others))
-            return doc if width_of(doc) <= MOST_CHOICE else Group(doc, NEVER)
+            return kept(doc, MOST_CHOICE)
         docs: list[Doc] = [parts[0][1]]
         for (before, _), (behind, part) in zip(parts, parts[1:]):
             here = (Line(" "), part)
@@ -374,3 +384,122 @@ def laid_out_sequent(left: Iterable[Tree], right: Iterable[Tree], width: int = W
         if sign < 0:
             lines.append(f"{indent}     ==>")
     return lines
+
+
+# Strategies
+
+Node = Union[Atom, Choice, strategies.Sequence, Branch, Repeat]
+HARD = Group(Line(""), NEVER)
+COMMENT = re.compile(r'"[^"]*"|(?P<comment>/\*.*?\*/)', re.DOTALL)
+
+
+class Comment(NamedTuple):
+    """A comment: its first byte, its lines, and whether it stands behind a part on a line that ends with it."""
+
+    begin: int
+    lines: tuple[str, ...]
+    is_behind: bool
+
+
+def comments_in(source: str) -> list[Comment]:
+    """The comments of a strategy. Lines of a comment keep their places to each other."""
+    found = []
+    for here in COMMENT.finditer(source):
+        if here["comment"]:
+            before = source[source.rfind("\n", 0, here.start()) + 1 : here.start()]
+            after = source[here.end() :].partition("\n")[0]
+            first, *others = here["comment"].split("\n")
+            moved = (other[len(before) :].rstrip() if not other[: len(before)].strip() else other.strip() for other in others)
+            is_behind = bool(before.strip(" \t\r")) and not after.strip(" \t\r")
+            found.append(Comment(here.start(), (first.rstrip(), *moved), is_behind))
+    return found
+
+
+class StrategyLayout:
+    """Makes the document of a strategy with these comments, each of which comes to stand at the part before which it stood."""
+
+    def __init__(self, comments: Sequence[Comment]) -> None:
+        self.comments = list(reversed(comments))
+
+    def behind(self, end: int) -> Doc:
+        """The comments up to a byte that stand behind a part."""
+        found: list[Doc] = []
+        while self.comments and self.comments[-1].begin < end and self.comments[-1].is_behind:
+            found.append((" ", self.lines(), Group("", NEVER)))
+        return tuple(found)
+
+    def before(self, end: int) -> Doc:
+        """The comments up to a byte, on lines of their own."""
+        found: list[Doc] = []
+        while self.comments and self.comments[-1].begin < end:
+            found.append((self.lines(), HARD))
+        return tuple(found)
+
+    def lines(self) -> Doc:
+        """The lines of the next comment, which is gone then."""
+        first, *others = self.comments.pop().lines
+        return (first, *((HARD, other) for other in others))
+
+    def part(self, node: Node, is_inside: bool) -> Doc:
+        """A part, which needs brackets inside of a sequence, a choice or a repeat."""
+        while isinstance(node, strategies.Sequence) and len(node.parts) == 1:
+            node = node.parts[0]
+        comments = self.before(node.begin)
+        if is_inside and isinstance(node, (Choice, strategies.Sequence)):
+            return (comments, bracketed("(", self.bare(node), ")"))
+        return (comments, self.bare(node))
+
+    def bare(self, node: Node) -> Doc:
+        """A part without brackets round it."""
+        if isinstance(node, Atom):
+            return atom_text(node)
+        if isinstance(node, Repeat):
+            return (self.part(node.body, True), f"*{node.times}")
+        if isinstance(node, Choice):
+            first, *others = [self.part(part, True) for part in node.parts]
+            return (first, *(group(Line(" "), "| ", other) for other in others))
+        return self.branch(node) if isinstance(node, Branch) else self.sequence(node)
+
+    def sequence(self, node: strategies.Sequence) -> Doc:
+        """Parts with `;` between: as many on a line as fit there, but a branch begins and ends lines where the sequence doesn't fit on one."""
+        parts = node.parts
+        docs: list[Doc] = [self.part(parts[0], True)]
+        for place in range(1, len(parts)):
+            part = parts[place]
+            if isinstance(part, Branch):
+                docs.append(("; ", self.branch(part)))
+                continue
+            is_apart = isinstance(parts[place - 1], Branch) or isinstance((*parts, None)[place + 1], Branch)
+            comments = self.behind(part.begin)
+            has_own_line = is_apart or comments or self.comments and self.comments[-1].begin < part.begin
+            here = (Line(" "), self.part(part, True))
+            docs.append((";", comments, here if has_own_line else group(here)))
+        return group(*docs)
+
+    def branch(self, node: Branch) -> Doc:
+        """A branch, with a part a line where it is long."""
+        inside: list[Doc] = []
+        for place, part in enumerate(node.parts):
+            inside += [(",", self.behind(part.begin), Line(" ")) if place else "", self.part(part, False)]
+        last = (self.behind(node.end), *((HARD, self.lines()) for _ in range(self.count(node.end))))
+        return kept(bracketed("<(", (*inside, last), ")"), MOST_BRANCH)
+
+    def count(self, end: int) -> int:
+        """How many comments are left up to a byte."""
+        return sum(comment.begin < end for comment in self.comments)
+
+
+def atom_text(atom: Atom) -> str:
+    """The text of an atom."""
+    said = ""
+    for argument in atom.arguments:
+        said += f'"{argument.text}", ' if argument.kind == "text" else f"{argument.text},"
+    return f"{atom.name}({said.rstrip(', ')})" if said else atom.name
+
+
+def laid_out_strategy(node: Node, source: str = "", width: int = WIDTH) -> str:
+    """The text of a strategy with the comments of the text from which it was read, without a line feed at its end."""
+    layout = StrategyLayout(comments_in(source))
+    doc = (layout.part(node, False), layout.behind(len(source)))
+    rest = [(HARD, layout.lines()) for _ in range(len(layout.comments))]
+    return Sheet(width).put(group(*doc, *rest))
