@@ -122,7 +122,7 @@ class RandomTrees(unittest.TestCase):
         return one.tree(chance.choice([TERM, FORMULA, FORMULA, PROGRAM]), chance.randint(1, 7)), one.notes, trees
 
     def test_they_read_back_the_same(self):
-        for seed in range(1000):
+        for seed in range(500):
             with self.subTest(seed=seed):
                 tree, _, trees = self.grown(seed, 0)
                 for width in (100, 30, 1):
@@ -131,14 +131,14 @@ class RandomTrees(unittest.TestCase):
 
     def test_with_their_annotations(self):
         annotated = 0
-        for seed in range(3000):
+        for seed in range(1500):
             with self.subTest(seed=seed):
                 tree, notes, trees = self.grown(seed, 0.25)
                 annotated += bool(notes)
                 again, others = read_back(laid_out(tree, notes, width=60), tree.sort, trees)
                 self.assertIs(again, tree)
                 self.assertEqual(others, notes)
-        self.assertGreater(annotated, 400)
+        self.assertGreater(annotated, 250)
 
     def test_a_wide_sheet_has_one_line(self):
         for seed in range(200):
@@ -227,7 +227,8 @@ class Strategies(unittest.TestCase):
         source = '/* a */ implyR(1); /* b */\nstep(1) /* c */;\n /* d\n    e */\n<(leaf, /* f */\n cut("x>0 /* no */") /* g */) /* h */\n'
         self.assertEqual(
             self.check(source).split("\n"),
-            ["/* a */", "implyR(1); /* b */", "step(1); <(", "  /* c */", "  /* d", "     e */", "  leaf, /* f */", '  cut("x>0 /* no */")', "  /* g */", ") /* h */"],
+            ["/* a */", "implyR(1); /* b */", "step(1); <(", "  /* c */", "  /* d", "     e */", "  leaf, /* f */"]
+            + ['  cut("x>0 /* no */")', "  /* g */", ") /* h */"],
         )
 
     def grown(self, chance, depth):
@@ -248,7 +249,7 @@ class Strategies(unittest.TestCase):
         return f"(({inside[0]}))"
 
     def test_random_ones_read_back_the_same(self):
-        for seed in range(1000):
+        for seed in range(400):
             with self.subTest(seed=seed):
                 chance = random.Random(seed)
                 self.check(self.grown(chance, chance.randint(1, 5)), chance.choice([30, 100]))

@@ -8,11 +8,12 @@ A text is first a document of parts (`Doc`), in which a group stays on one line 
 """
 
 import re
+from dataclasses import dataclass
 from typing import Iterable, NamedTuple, Sequence, Union
 
 from dlkt import strategies
 from dlkt.reader import Note
-from dlkt.strategies import Atom, Branch, Choice, Repeat
+from dlkt.strategies import Atom, Branch, Choice, Part, Repeat
 from dlkt.trees import BRACKETS, FORMULA, PROGRAM, ROWS, TERM, Tree, evolves, text, unit_text
 
 WIDTH = 100
@@ -31,26 +32,30 @@ PLAIN = (*COMPARISONS, "true", "false", "hole", "upred", "holds")
 
 # Documents
 
-class Line(NamedTuple):
+@dataclass(slots=True)
+class Line:
     """A place where a line may end: the text that stands there where it doesn't."""
 
     flat: str
 
 
-class Pad(NamedTuple):
+@dataclass(slots=True)
+class Pad:
     """A text that stands only where the lines of its group are broken."""
 
     text: str
 
 
-class Nest(NamedTuple):
+@dataclass(slots=True)
+class Nest:
     """Parts whose lines begin so many columns further right."""
 
     by: int
     parts: "Doc"
 
 
-class Group(NamedTuple):
+@dataclass(slots=True)
+class Group:
     """Parts that stand on one line where it has room: how wide they are there."""
 
     parts: "Doc"
@@ -134,7 +139,7 @@ class Sheet:
                 room -= width_of(doc)
             elif isinstance(doc, (Nest, Group)):
                 behind.append((is_broken, doc.parts))
-            elif isinstance(doc, tuple) and not isinstance(doc, Pad):
+            elif isinstance(doc, tuple):
                 behind += [(is_broken, part) for part in reversed(doc)]
         return False
 
@@ -159,7 +164,7 @@ def opened(doc: Doc) -> Doc:
     """A document whose first group breaks with what it stands in."""
     if isinstance(doc, Group):
         return doc.parts
-    return (opened(doc[0]), *doc[1:]) if isinstance(doc, tuple) and not isinstance(doc, (Line, Pad, Nest)) else doc
+    return (opened(doc[0]), *doc[1:]) if isinstance(doc, tuple) and doc else doc
 
 
 # Trees
@@ -302,7 +307,7 @@ class Layout:
         tests behind it keep together where they fit on a line."""
         if word == "choice":
             first, *others = [Nest(1, group(part)) for _, part in parts]
-            doc = (Pad(" "), first, *((Nest(-STEP, Line(" ")), "++ ", part) for part in others))
+            doc: Doc = (Pad(" "), first, *((Nest(-STEP, Line(" ")), "++ ", part) for part in others))
             return kept(doc, MOST_CHOICE)
         docs: list[Doc] = [parts[0][1]]
         for (before, _), (behind, part) in zip(parts, parts[1:]):
@@ -328,7 +333,7 @@ class Layout:
 
     def annotations(self, tree: Tree) -> list[Doc]:
         """The next annotation where it is one of this program, and those behind it if this layout is a greedy one."""
-        found = []
+        found: list[Doc] = []
         while self.takes(tree, found) and self.is_greedy:
             pass
         return found
@@ -388,7 +393,6 @@ def laid_out_sequent(left: Iterable[Tree], right: Iterable[Tree], width: int = W
 
 # Strategies
 
-Node = Union[Atom, Choice, strategies.Sequence, Branch, Repeat]
 HARD = Group(Line(""), NEVER)
 COMMENT = re.compile(r'"[^"]*"|(?P<comment>/\*.*?\*/)', re.DOTALL)
 
@@ -401,6 +405,12 @@ class Comment(NamedTuple):
     is_behind: bool
 
 
+def moved_lines(before: str, comment: str) -> tuple[str, ...]:
+    """The lines of a comment as they stand where it begins a line: `before` is what stood before it on its line."""
+    first, *others = comment.split("\n")
+    return (first.rstrip(), *(other[len(before) :].rstrip() if not other[: len(before)].strip() else other.strip() for other in others))
+
+
 def comments_in(source: str) -> list[Comment]:
     """The comments of a strategy. Lines of a comment keep their places to each other."""
     found = []
@@ -408,10 +418,8 @@ def comments_in(source: str) -> list[Comment]:
         if here["comment"]:
             before = source[source.rfind("\n", 0, here.start()) + 1 : here.start()]
             after = source[here.end() :].partition("\n")[0]
-            first, *others = here["comment"].split("\n")
-            moved = (other[len(before) :].rstrip() if not other[: len(before)].strip() else other.strip() for other in others)
             is_behind = bool(before.strip(" \t\r")) and not after.strip(" \t\r")
-            found.append(Comment(here.start(), (first.rstrip(), *moved), is_behind))
+            found.append(Comment(here.start(), moved_lines(before, here["comment"]), is_behind))
     return found
 
 
@@ -440,7 +448,7 @@ class StrategyLayout:
         first, *others = self.comments.pop().lines
         return (first, *((HARD, other) for other in others))
 
-    def part(self, node: Node, is_inside: bool) -> Doc:
+    def part(self, node: Part, is_inside: bool) -> Doc:
         """A part, which needs brackets inside of a sequence, a choice or a repeat."""
         while isinstance(node, strategies.Sequence) and len(node.parts) == 1:
             node = node.parts[0]
@@ -449,7 +457,7 @@ class StrategyLayout:
             return (comments, bracketed("(", self.bare(node), ")"))
         return (comments, self.bare(node))
 
-    def bare(self, node: Node) -> Doc:
+    def bare(self, node: Part) -> Doc:
         """A part without brackets round it."""
         if isinstance(node, Atom):
             return atom_text(node)
@@ -497,7 +505,7 @@ def atom_text(atom: Atom) -> str:
     return f"{atom.name}({said.rstrip(', ')})" if said else atom.name
 
 
-def laid_out_strategy(node: Node, source: str = "", width: int = WIDTH) -> str:
+def laid_out_strategy(node: Part, source: str = "", width: int = WIDTH) -> str:
     """The text of a strategy with the comments of the text from which it was read, without a line feed at its end."""
     layout = StrategyLayout(comments_in(source))
     doc = (layout.part(node, False), layout.behind(len(source)))
