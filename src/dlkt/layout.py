@@ -197,7 +197,7 @@ class Layout:
 
     def term(self, tree: Tree) -> Doc:
         """A term."""
-        if len(text(tree)) <= SHORT:
+        if len(text(tree)) <= SHORT or not tree.kids:
             return text(tree)
         for marks in (SUMS, PRODUCTS):
             if tree.word in marks:

@@ -333,8 +333,10 @@ def strategy(found: Found) -> str:
     rest = source(data[end:])
     if fault and fault.place and fault.place.byte >= end:
         at = fault.place.byte
-        rest = f'{source(data[end:at])}<mark id="fails" title="it fails here">{source(data[at : at + 1])}</mark>'
-        rest += f'<span class="after">{source(data[at + 1 :])}</span>'
+        word = strategies.NAME.match(data.decode("latin-1"), at)
+        behind = word.end() if word else at + 1
+        rest = f'{source(data[end:at])}<mark id="fails" title="it fails here">{source(data[at:behind])}</mark>'
+        rest += f'<span class="after">{source(data[behind:])}</span>'
     beside = '<div id="goals"></div>' if found.visits else '<p class="note">Which word made which line of the term isn\'t known.</p>'
     return f'<div class="beside"><pre class="source">{"".join(out)}{rest}</pre><div>{beside}</div></div>'
 
