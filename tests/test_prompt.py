@@ -288,7 +288,7 @@ class Terminal(Case):
 
     def until(self, wanted):
         """Reads until this text came."""
-        said, end = "", time.monotonic() + 60
+        said, end = "", time.monotonic() + 100
         while wanted not in said:
             self.assertLess(time.monotonic(), end, said)
             if select.select([self.terminal], [], [], 0.2)[0]:
@@ -300,20 +300,22 @@ class Terminal(Case):
         os.write(self.terminal, text.encode())
 
     def test_control_c_clears_the_line(self):
-        self.until("1 goal> ")
+        self.until("1 goal>")
         self.write("nonsense")
         self.until("nonsense")
         self.write("\x03")
-        self.until("1 goal> ")
+        self.until("1 goal>")
         self.write("implyR(\r")
-        self.until("... ")
+        self.until("...")
         self.write("\x03")
-        self.until("1 goal> ")
+        self.until("1 goal>")
         self.write("implyR(1)\r")
-        self.until("x >= 0 & true")
-        self.write('cut("tr\t")\r')
-        self.until('cut("true")')
-        self.until("2 goals> ")
+        self.until("1: x >= 0 & true")
+        self.until("1 goal>")
+        self.write('cut("tr\t')
+        self.until('cut("true')
+        self.write('")\r')
+        self.until("2 goals>")
         self.write("\x04")
         self.until('not saved:\napply 1 implyR(1)\napply 1 cut("true")')
         _, status = os.waitpid(self.child, 0)
@@ -379,7 +381,7 @@ class Names(unittest.TestCase):
     """The names that are completed are those of the documents."""
 
     def test_as_documented(self):
-        spec = importlib.util.spec_from_file_location("check", ROOT / "editors" / "check.py")
+        spec = importlib.util.spec_from_file_location("check", ROOT / "dev" / "editors.py")
         check = importlib.util.module_from_spec(spec)
         spec.loader.exec_module(check)
         documented = check.documented()
