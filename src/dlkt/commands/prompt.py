@@ -20,6 +20,7 @@ Where standard input is no terminal, lines are read from it, and shown as a term
 python3-prompt-toolkit), and completes with Tab.
 """
 
+import importlib.resources
 import json
 import re
 import sys
@@ -50,7 +51,7 @@ from dlkt.program import (
 from dlkt.terms import lines_of
 from dlkt.trees import Trees, text as text_of
 
-NAMES = Path(__file__).resolve().parent.parent / "names.json"
+NAMES = importlib.resources.files("dlkt") / "names.json"
 COMMANDS = ("apply", "undo", "goals", "paths", "history", "save", "help", "quit")
 APPLY = re.compile(r"apply ([1-9]\d{0,8}) (.*)", re.DOTALL)
 FAILURE = re.compile(r"(fails|budget) at (\d+)(?:: (\w+))?")

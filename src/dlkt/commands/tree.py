@@ -15,6 +15,7 @@ goal, and how many premises its rule has. A term may be of either version; lines
 connectives, cuts and the structure of a sequent make of them; where that isn't enough, a formula is shown as dots.
 """
 import html
+import importlib.resources
 import json
 import pathlib
 import re
@@ -26,7 +27,7 @@ from dlkt.program import Refused, are_same_file, position, read_bytes, split_lis
 from dlkt.terms import readable, version_of
 from dlkt.words import word_runs
 
-PAGES = pathlib.Path(__file__).resolve().parent.parent / "pages"
+PAGES = importlib.resources.files("dlkt") / "pages"
 
 # The premise of each axiomatic rule: its symbols, and what stands between them.
 AXIOMATIC = {
