@@ -72,6 +72,8 @@ CHECKS = [
     script("dev/edits.py --silent --look"),
     script("dev/edits.py --consistent --look"),
     script("dev/counters.py"),
+    script("dev/tried.py"),
+    script("dev/manual.py --check"),
 ]
 # The packages that tests of dlkt want. A test that misses one is skipped by itself, and counted.
 PACKAGES = ("lark", "prompt_toolkit", "hypothesis", "z3")
