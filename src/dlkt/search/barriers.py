@@ -7,7 +7,6 @@ Arechiga, Simulation-guided Lyapunov analysis for hybrid dynamical systems, HSCC
 which says that V falls wherever it is near 0, and is Darboux with the cofactor 4*V (Prajna and Jadbabaie, HSCC 2004).
 """
 
-import re
 from dataclasses import dataclass, field
 from fractions import Fraction
 from typing import NamedTuple
@@ -26,7 +25,6 @@ BUDGET = 5.0  # seconds for each m
 STEEP = 4  # the c of a strict barrier V'<=c*V^2
 RATES: tuple[Fraction | None, ...] = (Fraction(0), Fraction(-1), Fraction(-1, 2), Fraction(-2), Fraction(1))
 RATES_BENT: tuple[Fraction | None, ...] = (Fraction(0), None, Fraction(-1), Fraction(1))
-COEFFICIENT = re.compile(r"\(c(\d+) ((?:[^()]|\((?:[^()]|\([^()]*\))*\))*)\)")
 
 Point = dict[str, Fraction]
 Constraint = tuple[list[Fraction], Fraction]  # a row, and the least value of its product with the coefficients
@@ -86,28 +84,15 @@ def smt_number(value: Fraction) -> str:
     return f"{value.numerator}.0" if value.denominator == 1 else f"(/ {value.numerator}.0 {value.denominator}.0)"
 
 
-def exact_number(said: str) -> Fraction:
-    """The number that z3 prints, as `(- (/ 1.0 2.0))`."""
-    parts = said.replace("(", " ").replace(")", " ").split()
-    sign = -1 if parts.count("-") % 2 else 1
-    digits = [Fraction(part) for part in parts if part not in ("-", "/")]
-    return sign * (digits[0] / digits[1] if "/" in parts else digits[0])
-
-
 def coefficients(search: Search, rows: list[Constraint], count: int) -> list[Fraction] | None:
     """Numbers that satisfy all rows, small and round ones where that goes; none where there are none."""
     for most in (4, 64):
-        head = f"(reset)\n(set-option :rlimit {2 * SECOND})\n(set-option :pp.decimal false)\n(set-logic QF_LRA)\n"
         body = "".join(f"(declare-const c{i} Real)\n(assert (and (<= c{i} {most}.0) (>= c{i} (- {most}.0))))\n" for i in range(count))
         for row, least in rows:
             parts = " ".join(f"(* {smt_number(factor)} c{i})" for i, factor in enumerate(row) if factor) or "0.0"
             body += f"(assert (>= (+ 0.0 {parts}) {smt_number(least)}))\n"
-        said = search.solver.talk(head + body + "(check-sat)\n", 2) or ""
-        search.solver.work += SECOND // 200
-        if not said.startswith("sat"):
-            continue
-        told = search.solver.talk(f"(get-value ({' '.join(f'c{i}' for i in range(count))}))\n", 2) or ""
-        found = {int(place): exact_number(value) for place, value in COEFFICIENT.findall(told)}
+        _, values = search.solver.check(body, 2.0, "QF_LRA", "(set-option :pp.decimal false)\n")
+        found = {int(name[1:]): Fraction(value) for name, value in values.items()}
         if len(found) == count:
             return rounded([found[place] for place in range(count)], rows)
     return None

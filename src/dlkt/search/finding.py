@@ -83,7 +83,7 @@ class Finder:
         self.source, self.options, self.begin = source, options, time.time()
         self.tree, notes = model(source)
         self.kernel = Kernel(program_of(options.program))
-        self.solver = Solver()
+        self.solver = Solver(end=self.begin + options.seconds)
         self.search = Search(self.kernel, self.solver, notes if options.annotated else [], options.seconds, proved)
         self.search.guess = options.guess
 

@@ -92,6 +92,8 @@ class Kernel:
             count = len(goal.left)
             before = f"implyR(1)*{count}; " if count else "nil; "
             status, said = self.run(text(goal.formula()), f"{before}({strategy})")
+            if status < 0:  # control-C ends the program, too
+                raise Failed("the program was ended")
             self.known[key] = Left(goals_of(said), re.findall(r"^leaf \d+ (.*)$", said, re.MULTILINE)) if status in (0, 1) else said.split("\n")[0]
         found = self.known[key]
         if isinstance(found, str):

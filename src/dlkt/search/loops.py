@@ -110,8 +110,8 @@ def by_parts(search: Search, here: Loop, given: list[Tree], is_given: bool) -> s
             search.say(f"the invariant {text(part)} {how} at first: {shown_values(said.values)}")
             return None
     given = [part for part in given if search.solver.holds(here.left, part, 5.0)]
-    attempt = (lambda: by_round(search, here, here.constants + given))
-    found = attempt() if not search.partial else search.tried(attempt)
+    parts = here.constants + given
+    found = by_round(search, here, parts) if not search.partial else search.tried(lambda: by_round(search, here, parts))
     if found or not search.guess:
         return found
     search.because("loop invariant", here.goal, f"a round doesn't keep {text(conjunction(here.constants + given))}, or it doesn't say enough")
