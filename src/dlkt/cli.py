@@ -24,6 +24,7 @@ class Command(NamedTuple):
 
 COMMANDS = {
     "verify": Command("dlkt.commands.verify", 4),
+    "auto": Command("dlkt.commands.auto"),
     "batch": Command("dlkt.commands.batch"),
     "leaves": Command("dlkt.commands.leaves"),
     "page": Command("dlkt.commands.page"),
