@@ -91,8 +91,8 @@ class Found(NamedTuple):
 class Paths:
     """Searches the paths of a model with up to so many rounds."""
 
-    def __init__(self, clock: Clock) -> None:
-        self.clock, self.meaning, self.rounds = clock, Meaning(0), 0
+    def __init__(self, clock: Clock, prunes: bool = True) -> None:
+        self.clock, self.prunes, self.meaning, self.rounds = clock, prunes, Meaning(0), 0
         self.asked = self.unknown = 0
         self.is_partial = self.has_more = False
         self.feasible: dict[tuple[int, ...], bool] = {}
@@ -139,6 +139,8 @@ class Paths:
     def is_feasible(self, path: Path) -> bool:
         """Whether it isn't known that no run takes a path."""
         self.clock.check()
+        if not self.prunes:
+            return True
         if path.turns not in self.feasible:
             self.asked += 1
             self.feasible[path.turns] = solver.timely(solver.both(path.conditions), FEASIBLE).said != Said.IMPOSSIBLE

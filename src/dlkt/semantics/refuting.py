@@ -12,9 +12,10 @@ from fractions import Fraction
 from typing import Mapping, NamedTuple, Sequence
 
 from dlkt.reader import Note
-from dlkt.semantics import exactly, solver
+from dlkt.semantics import annotations, exactly, solver
 from dlkt.semantics.exactly import NoRun, Numbers
 from dlkt.semantics.meaning import Meaning
+from dlkt.semantics.numerically import Numeric, Tried, simulated_run
 from dlkt.semantics.paths import Clock, Found, OutOfTime, Paths, Taken, first_names
 from dlkt.semantics.runs import Amount, Answer, Kind, Run, Status, Step, counted
 from dlkt.semantics.solver import Expression
@@ -23,8 +24,9 @@ from dlkt.semantics.values import State, Value
 from dlkt.trees import Tree, text
 
 SECONDS, ROUNDS = 20.0, 3
+HINT_SECONDS = 1.0  # for each question on an annotation
 EXACT_PART = 0.5  # of the time, where a search by numbers may follow
-SIMPLE = [Fraction(value) for value in (1, 0, 2, "1/2", -1, 3, 4, 5, 10, "1/4", "-1/2", -2)]
+SIMPLE = [Fraction(value) for value in ("1", "0", "2", "1/2", "-1", "3", "4", "5", "10", "1/4", "-1/2", "-2")]
 ROUND_MILLISECONDS, ROUND_SECONDS = 40, 0.12
 COMPARISONS = {"eq": "=", "ne": "!=", "ge": ">=", "gt": ">", "le": "<=", "lt": "<"}
 
@@ -38,16 +40,25 @@ class Settings(NamedTuple):
 
 
 def run_that_breaks(model: Tree, notes: Sequence[Note] = (), seconds: float = SECONDS, rounds: int = ROUNDS) -> Run | None:
-    """A run that breaks a model, where one is found in this time and up to this number of rounds. None says nothing of the model."""
-    return refuted(model, notes, Settings(seconds, rounds)).run
+    """A run that breaks a model, where one is found in this time and up to this number of rounds. None says nothing of the model. The annotations
+    say nothing of its runs: `answered` has hints on them."""
+    return refuted(model, Settings(seconds, rounds)).run
 
 
-def refuted(model: Tree, notes: Sequence[Note] = (), settings: Settings = Settings()) -> Answer:
+def refuted(model: Tree, settings: Settings = Settings()) -> Answer:
     """What comes of the search for a run that breaks a model."""
     begin = time.monotonic()
     run, tried = searched(model, settings)
     status = Status.NOTHING if run is None else Status.REFUTED if run.is_exact else Status.BY_NUMBERS
     return Answer(status, run, tried, time.monotonic() - begin)
+
+
+def answered(model: Tree, notes: Sequence[Note], settings: Settings) -> Answer:
+    """What comes of the search, with hints on the annotations."""
+    answer = refuted(model, settings)
+    small = Settings(min(HINT_SECONDS, settings.seconds / 4), 0, settings.seed)
+    found = annotations.hints(model, notes, lambda question: searched(question, small)[0])
+    return answer._replace(hints=found)
 
 
 def searched(model: Tree, settings: Settings) -> tuple[Run | None, str]:
@@ -57,7 +68,35 @@ def searched(model: Tree, settings: Settings) -> tuple[Run | None, str]:
     run = exact.run()
     if run is not None:
         return run, exact.tried
-    return None, exact.tried
+    numeric = Numeric(model, settings.rounds, clock, settings.seed)
+    confirmed: list[Run] = []
+
+    def confirms(tried: Tried) -> bool:
+        """Whether a simulated run counts: by itself where the model isn't solved exactly, else where its path has a solution."""
+        if not exact.is_complete:
+            return True
+        found = shown_way(model, tried, clock)
+        if found is not None:
+            confirmed.append(found)
+        return found is not None
+
+    try:
+        tried = numeric.search(confirms)
+    except Unsupported as why:
+        return None, f"{exact.tried}; not by numbers, for {why}"
+    told = f"{exact.tried}; {numeric.runs} simulated runs"
+    return (confirmed[0] if confirmed else simulated_run(tried) if tried else None), told
+
+
+def shown_way(model: Tree, tried: Tried, clock: Clock) -> Run | None:
+    """The exact run on the path of a simulated one, where there is one."""
+    paths = Paths(clock, prunes=False)
+    end = tried.simulation.end
+    try:
+        found = paths.following(model, [did.program for did in end[1]] if end else [], tried.first)
+        return run_of(found, model, clock) if found else None
+    except (Unsupported, OutOfTime):
+        return None
 
 
 class Exact:
@@ -97,7 +136,8 @@ def run_of(found: Found, model: Tree, clock: Clock) -> Run | None:
     """The run that a solution is, with simple numbers where some do; none where it isn't confirmed."""
     names = first_names(model)
     chosen = [step.constant.decl().name() for step in found.path.taken if step.constant is not None]
-    numbers = simple_numbers(found, [*names, *chosen], clock)
+    symbols = [name for name in names if name.endswith("()")]
+    numbers = simple_numbers(found, [*symbols, *chosen, *(name for name in names if name not in symbols)], clock)
     if all(numbers.get(name, Amount.of(0)).exact is not None for name in [*names, *chosen]):
         try:
             return confirmed_run(found, names, {name: number.exact or Fraction(0) for name, number in numbers.items()})

@@ -29,8 +29,10 @@ def make(word: str, detail: str = "", *kids: Tree) -> Tree:
 def forget() -> None:
     """Lets go all trees that were made here, for long runs."""
     TREES.made.clear()
-    for cached in (differential, formula_differential, reads, mentioned):
-        cached.cache_clear()
+    differential.cache_clear()
+    formula_differential.cache_clear()
+    reads.cache_clear()
+    mentioned.cache_clear()
 
 
 def numeral(value: Fraction | int) -> Tree:
