@@ -32,7 +32,7 @@ from typing import Any, Callable
 
 from dlkt import reader, semantics
 from dlkt.program import Refused, position, read_bytes, seconds
-from dlkt.trees import Trees
+from dlkt.trees import Tree, Trees
 
 HELP = "looks for a run that breaks a model"
 EXAMPLE = "dlkt refute examples/gallery/time_stop/model"
@@ -60,13 +60,14 @@ def add_words(parser: argparse.ArgumentParser) -> None:
     parser.add_argument("--seed", type=int, default=1, metavar="N", help="another start to what is tried at random (1)")
 
 
-def model_of(path: str) -> tuple[Any, Any]:
+def model_of(path: str) -> tuple[Tree, list[reader.Note]]:
     """The tree of a model and its annotations."""
     if path == "-":
         raise Refused("standard input isn't taken: name a file")
     data = read_bytes(path)
     try:
-        return reader.model(data.decode("latin-1"), Trees())
+        tree, notes = reader.model(data.decode("latin-1"), Trees())
+        return tree, notes
     except reader.Wrong as fault:
         place = position(data, fault.byte)
         raise Refused(f"{path}:{place.line}:{place.column}: the model doesn't go on here") from fault
@@ -116,5 +117,3 @@ def run(options: argparse.Namespace) -> int:
         sys.stdout.flush()
         os._exit(status)
     return status
-
-

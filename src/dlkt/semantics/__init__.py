@@ -17,6 +17,7 @@ calculus (`bench/soundness.py`).
     simulation   runs by floating point
     numerically  the search for a run by simulation
     runs         what a run is, and how it is told
+    invariants   hints on the annotations of a model
     refuting     the whole search: `run_that_breaks`
     apart        the same in a process of its own
     plot         a picture of a run

@@ -7,12 +7,13 @@ margin; where the program is in the part that is solved exactly, it only shows t
 
 from __future__ import annotations
 
+import itertools
 import random
 from fractions import Fraction
 from typing import Callable, Iterator, NamedTuple, Sequence
 
 from dlkt.semantics import solver
-from dlkt.semantics.floats import Floats, fails, holds, value
+from dlkt.semantics.floats import Floats, holds, value
 from dlkt.semantics.meaning import Meaning
 from dlkt.semantics.paths import Clock, first_names
 from dlkt.semantics.runs import Accuracy, Amount, Kind, Run, Step
@@ -23,7 +24,7 @@ from dlkt.semantics.values import State
 from dlkt.trees import Tree, text
 
 TRIES, STALE, DOUBTED = 150, 45, 5  # runs from one first state, those that better nothing, and what an unconfirmed one counts as
-FAILS_BY = 1e-5
+SIMPLE_STARTS = 3  # that are made of small numbers alone
 PINNED, WHOLE = 150, 300  # milliseconds of a question
 COMPARISONS = {"eq": "=", "ne": "!=", "ge": ">=", "gt": ">", "le": "<=", "lt": "<"}
 
@@ -58,8 +59,10 @@ def shape_of(model: Tree) -> Shape | None:
     return Shape(assumptions, program, postcondition)
 
 
-def some_value(rng: random.Random) -> Fraction:
+def some_value(rng: random.Random, is_simple: bool) -> Fraction:
     """A number to begin with: a small one, one of a few digits, or one of up to four."""
+    if is_simple:
+        return Fraction(rng.choice([0, 1, 1, 2, -1, 3]))
     return Fraction(rng.choice([
         Fraction(rng.choice([0, 1, 2, 5, -1])), Fraction(rng.randint(-40, 40), 10), Fraction(rng.randint(0, 30), 10),
         rng.choice([-1, 1, 1]) * Fraction(int(10 * 10 ** (3 * rng.random())), 10),
@@ -69,11 +72,13 @@ def some_value(rng: random.Random) -> Fraction:
 def starts(shape: Shape, names: Sequence[str], rng: random.Random, clock: Clock) -> Iterator[Floats]:
     """First values that satisfy the assumptions."""
     assumed = solver.both(Meaning().formula(formula, State(), False) for formula in shape.assumptions)
-    while clock.left() > 0:
+    for number in itertools.count():
+        if clock.left() < 0:
+            return
         wanted = assumed
         for name in rng.sample(list(names), len(names)):
             for _ in range(2):
-                pinned = solver.both([wanted, solver.real(name) == solver.number(some_value(rng))])
+                pinned = solver.both([wanted, solver.real(name) == solver.number(some_value(rng, number < SIMPLE_STARTS))])
                 if solver.timely(pinned, PINNED).said == Said.SOLVED:
                     wanted = pinned
                     break
@@ -115,7 +120,7 @@ class Numeric:
             tried = Tried(first, choices, simulation)
             simulation.run(shape.program)
             self.runs += 1
-            if simulation.end and simulation.least < 0 and fails(shape.postcondition, simulation.end[0], FAILS_BY):
+            if simulation.fails:
                 if confirms(tried):
                     return tried
                 stale += DOUBTED
@@ -148,7 +153,7 @@ def simulated_run(tried: Tried) -> Run:
         number += did.program.word == "loop"
         steps.append(step_of(did, number))
     sides = [f"{Amount(left).text()} {mark} {Amount(right).text()}" for left, mark, right in sides_of(simulation.postcondition, state)]
-    first = {name: Amount(known) for name, known in tried.first.items()}
+    first = {name: Amount.given(known) for name, known in tried.first.items()}
     accuracy = Accuracy(max((did.step for did in done), default=0.0), -simulation.least)
     return Run(False, first, steps, text(simulation.postcondition), sides, number, accuracy)
 

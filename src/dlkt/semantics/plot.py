@@ -1,4 +1,4 @@
-"""Draws a run: time across, each variable a line, the domains of systems marked, and at the end the formula that fails.
+"""Draws a run: time across, each variable a line, the domains of systems marked, and the formula that fails with both of its sides.
 
 It needs matplotlib (Debian's python3-matplotlib). Along systems the lines are computed again by floating point.
 """
@@ -10,11 +10,12 @@ import random
 from pathlib import Path
 from typing import NamedTuple, Sequence
 
+from dlkt import reader
 from dlkt.program import Refused, are_same_file
-from dlkt.semantics.floats import Floats
+from dlkt.semantics.floats import Floats, value
 from dlkt.semantics.runs import Kind, Run, Step
 from dlkt.semantics.simulation import Choices, Flow, Simulation
-from dlkt.semantics.syntax import make
+from dlkt.semantics.syntax import TREES, make, reads
 from dlkt.trees import Tree, text
 
 ENDINGS = {".svg": b"<?xml", ".png": b"\x89PNG", ".pdf": b"%PDF"}
@@ -32,7 +33,7 @@ class Span(NamedTuple):
 
 
 class Lines(NamedTuple):
-    """What is drawn: times, the values of each variable at them, and the times of systems."""
+    """What is drawn: times, the values at them of each variable and of each side of what fails, and the times of systems."""
 
     times: list[float]
     values: dict[str, list[float]]
@@ -65,14 +66,15 @@ def variables(run: Run) -> list[str]:
 
 def lines_of(run: Run) -> Lines:
     """The lines of a run."""
-    state: Floats = {name: value.near for name, value in run.first.items()}
-    names = variables(run)
-    lines, time = Lines([], {name: [] for name in names}, []), 0.0
+    state: Floats = {name: amount.near for name, amount in run.first.items()}
+    drawn = {name: make("var", name) for name in variables(run)}
+    drawn |= {text(side): side for side in sides_of(reader.formula(run.fails, TREES))}
+    lines, time = Lines([], {name: [] for name in drawn}, []), 0.0
 
     def point() -> None:
         lines.times.append(time)
-        for name in names:
-            lines.values[name].append(state.get(name, float("nan")))
+        for name, term in drawn.items():
+            lines.values[name].append(value(term, state) if reads(term) <= set(state) else float("nan"))
 
     point()
     for step in run.steps:
@@ -83,9 +85,18 @@ def lines_of(run: Run) -> Lines:
                 point()
             time = begin + step.duration.near
             lines.spans.append(Span(begin, time, "" if domain.word == "true" else text(domain)))
-        state = {**state, **{name: value.near for name, value in step.values.items()}}
+        state = {**state, **{name: amount.near for name, amount in step.values.items()}}
         point()
     return lines
+
+
+def sides_of(formula: Tree) -> list[Tree]:
+    """Both sides of each comparison of a formula, where it has no program and no quantifier."""
+    if formula.word in ("eq", "ne", "ge", "gt", "le", "lt"):
+        return [side for side in formula.kids if side.word != "num"]
+    if formula.word in ("and", "or", "imply", "equiv", "not"):
+        return [side for kid in formula.kids for side in sides_of(kid)]
+    return []
 
 
 def along(step: Step, system: Tree, state: Floats) -> Sequence[tuple[float, Floats]]:
@@ -111,11 +122,11 @@ def draw(run: Run, target: str) -> None:
     import matplotlib  # type: ignore[import]
     matplotlib.use("Agg")
     matplotlib.rcParams["svg.hashsalt"] = "dlkt"  # so that the same run gives the same file
-    from matplotlib import pyplot  # type: ignore[import]
-    lines = lines_of(run)
+    from matplotlib import pyplot
+    lines, changed = lines_of(run), variables(run)
     figure, axes = pyplot.subplots(figsize=(8, 4.5))
     for name, values in lines.values.items():
-        axes.plot(lines.times, values, label=name, marker=".", markersize=3)
+        axes.plot(lines.times, values, label=short(name), marker=".", markersize=3, linestyle="-" if name in changed else "--")
     for number, span in enumerate(lines.spans):
         axes.axvspan(span.begin, span.end, color="0.5", alpha=0.06 + 0.06 * (number % 2))
         if span.domain:

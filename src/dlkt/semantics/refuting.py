@@ -12,7 +12,7 @@ from fractions import Fraction
 from typing import Mapping, NamedTuple, Sequence
 
 from dlkt.reader import Note
-from dlkt.semantics import annotations, exactly, solver
+from dlkt.semantics import exactly, invariants, solver
 from dlkt.semantics.exactly import NoRun, Numbers
 from dlkt.semantics.meaning import Meaning
 from dlkt.semantics.numerically import Numeric, Tried, simulated_run
@@ -27,7 +27,7 @@ SECONDS, ROUNDS = 20.0, 3
 HINT_SECONDS = 1.0  # for each question on an annotation
 EXACT_PART = 0.5  # of the time, where a search by numbers may follow
 SIMPLE = [Fraction(value) for value in ("1", "0", "2", "1/2", "-1", "3", "4", "5", "10", "1/4", "-1/2", "-2")]
-ROUND_MILLISECONDS, ROUND_SECONDS = 40, 0.12
+ROUND_MILLISECONDS, ROUND_SECONDS = 40, 0.12  # of the clock for a question, of the processor for all
 COMPARISONS = {"eq": "=", "ne": "!=", "ge": ">=", "gt": ">", "le": "<=", "lt": "<"}
 
 
@@ -57,7 +57,7 @@ def answered(model: Tree, notes: Sequence[Note], settings: Settings) -> Answer:
     """What comes of the search, with hints on the annotations."""
     answer = refuted(model, settings)
     small = Settings(min(HINT_SECONDS, settings.seconds / 4), 0, settings.seed)
-    found = annotations.hints(model, notes, lambda question: searched(question, small)[0])
+    found = invariants.hints(model, notes, lambda question: searched(question, small)[0])
     return answer._replace(hints=found)
 
 
@@ -154,7 +154,7 @@ def simple_numbers(found: Found, names: Sequence[str], clock: Clock) -> dict[str
     if solution is None:
         return {name: Amount.of(0) for name in names}
     there = solver.constants(wanted)
-    deadline = time.monotonic() + min(ROUND_SECONDS, max(0.0, clock.left()))
+    deadline = time.process_time() + ROUND_SECONDS
     numbers: dict[str, Amount] = {}
     for name in names:
         constant = there.get(name)
@@ -163,7 +163,7 @@ def simple_numbers(found: Found, names: Sequence[str], clock: Clock) -> dict[str
             continue
         now = amount_of(solution.value(constant))
         for candidate in simpler(now):
-            if time.monotonic() > deadline:
+            if time.process_time() > deadline or clock.left() < 0:
                 break
             pinned = solver.both([wanted, constant == solver.number(candidate)])
             answer = solver.timely(pinned, ROUND_MILLISECONDS)

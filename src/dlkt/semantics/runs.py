@@ -37,6 +37,12 @@ class Amount(NamedTuple):
         exact = Fraction(value)
         return Amount(float(exact), exact)
 
+    @staticmethod
+    def given(value: float) -> Amount:
+        """The amount of a number that was given: exact where it is a fraction of small numbers."""
+        exact = Fraction(value).limit_denominator(1000)
+        return Amount(value, exact if float(exact) == value else None)
+
     def text(self) -> str:
         """The amount as people read it: `~` stands before what is rounded."""
         if self.exact is not None and len(str(self.exact)) <= LONGEST_FRACTION:

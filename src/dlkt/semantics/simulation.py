@@ -11,12 +11,13 @@ import math
 import random
 from typing import Callable, NamedTuple, Sequence, TypeAlias
 
-from dlkt.semantics.floats import Floats, distance, holds, value
+from dlkt.semantics.floats import Floats, distance, fails, holds, value
 from dlkt.semantics.syntax import Unsupported, equations, reads, slope
 from dlkt.trees import Tree
 
 GREATEST = 1e5  # of a value along a system
 ERROR, SMALL_ERROR = 1e-7, 1e-9  # of a step, relative
+FAILS_BY = 1e-5  # the margin by which a formula must fail, relative to the size of what is added up in it
 DOMAIN = -1e-9  # how far a domain may be from holding
 MOST_STEPS, BISECTIONS, TRIES, ATTEMPTS = 400, 40, 3, 40
 LEAST_STEP = 1e-9
@@ -74,12 +75,12 @@ def look_away() -> None:
 
 class Simulation:
     """A run of a program from first values. At each place where the program may have ended it is looked how far the postcondition is from
-    failing: the least of that, and where it was, is kept."""
+    failing: the first place is kept where it fails by the margin, and else the one where it comes nearest to that."""
 
     def __init__(self, postcondition: Tree, rounds: int, choices: Choices, first: Floats) -> None:
         self.postcondition, self.rounds, self.choices = postcondition, rounds, choices
         self.state, self.done = dict(first), list[Did]()
-        self.least, self.guide = math.inf, math.inf
+        self.least, self.guide, self.fails = math.inf, math.inf, False
         self.end: tuple[Floats, list[Did]] | None = None
 
     def run(self, program: Tree) -> None:
@@ -92,8 +93,9 @@ class Simulation:
         far = distance(self.postcondition, self.state)
         if self.done:
             self.guide = min(self.guide, far / (1 + max([abs(known) for known in self.state.values()], default=0.0)))
-        if far < self.least:
+        if far < self.least and not self.fails:
             self.least, self.end = far, (dict(self.state), list(self.done))
+            self.fails = far < 0 and fails(self.postcondition, self.state, FAILS_BY)
 
     def saved(self) -> tuple[Floats, int]:
         """The place of a run, to come back to it."""
@@ -102,7 +104,7 @@ class Simulation:
     def back(self, place: tuple[Floats, int]) -> None:
         """Goes back to a place of the run."""
         self.state = dict(place[0])
-        del self.done[place[1] :]
+        del self.done[place[1]:]
 
     def step(self, program: Tree, ending: Looking) -> None:
         """Runs a part of the program, and looks at its end."""

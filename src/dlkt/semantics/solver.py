@@ -17,6 +17,8 @@ from typing import Any, Iterable, Mapping, NamedTuple, Sequence, TypeAlias
 import z3  # type: ignore[import]
 
 Expression: TypeAlias = Any
+MOST_MEMORY = 3_000  # megabytes, behind which z3 stops
+z3.set_param("memory_max_size", MOST_MEMORY)
 LATE = 0.9  # of the time that a question has
 COUNTER = itertools.count(1)
 
