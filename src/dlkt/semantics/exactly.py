@@ -32,7 +32,7 @@ class NoRun(Exception):
 def value(term: Tree, numbers: Mapping[str, Fraction]) -> Fraction:
     """The value of a term."""
     if term.word == "var":
-        return numbers[term.detail]
+        return numbers.get(term.detail, Fraction(0))
     if term.word == "num":
         return Fraction(term.detail)
     if term.word == "app" and not term.kids:
@@ -162,7 +162,7 @@ def solution(system: Tree, numbers: Mapping[str, Fraction]) -> dict[str, Coeffic
                 solve(item)
         found[slope(name)] = along_time(rights[name], numbers, found)
         summed = [coefficient / place for place, coefficient in enumerate(found[slope(name)], 1)]
-        found[name] = trimmed([numbers[name], *summed])
+        found[name] = trimmed([numbers.get(name, Fraction(0)), *summed])
 
     for name in rights:
         solve(name)

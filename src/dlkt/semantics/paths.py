@@ -282,7 +282,8 @@ def keeps_sign(word: str, polynomial: polynomials.Polynomial, duration: Expressi
 
 
 def first_names(formula: Tree) -> list[str]:
-    """What the first state gives: variables, and functions without arguments as `A()`, in their order in the text."""
+    """What the first state gives: variables that are read or that systems evolve, and functions without arguments as `A()`, in their order in
+    the text."""
     found: dict[str, None] = {}
     seen: set[Tree] = set()
 
@@ -294,6 +295,8 @@ def first_names(formula: Tree) -> list[str]:
             found[tree.detail] = None
         elif tree.word == "app" and not tree.kids:
             found[f"{tree.detail}()"] = None
+        elif tree.word == "system":
+            found.update(dict.fromkeys(equations(tree)))
         for kid in tree.kids:
             look(kid)
 
