@@ -32,6 +32,7 @@ COMMANDS = {
     "tree": Command("dlkt.commands.tree"),
     "prompt": Command("dlkt.commands.prompt"),
     "readable": Command("dlkt.commands.readable"),
+    "refute": Command("dlkt.commands.refute"),
     "words": Command("dlkt.words"),
 }
 
