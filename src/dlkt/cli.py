@@ -31,6 +31,7 @@ COMMANDS = {
     "prompt": Command("dlkt.commands.prompt"),
     "readable": Command("dlkt.commands.readable"),
     "words": Command("dlkt.words"),
+    "import": Command("dlkt.commands.import_"),
 }
 
 
