@@ -1,17 +1,18 @@
 """Archives of KeYmaera X: what is read of them is compared with models by hand, and what can't be read is refused at its place."""
 
 import importlib.util
+import re
 import subprocess
 import unittest
 
 import archive_cases
 import helping
-from dlkt import reader
+from dlkt import reader, strategies
 from dlkt.trees import Trees, text
 
 HAS_LARK = importlib.util.find_spec("lark") is not None
 if HAS_LARK:
-    from dlkt.archive import agreement, folders
+    from dlkt.archive import agreement, folders, tactics
     from dlkt.archive.models import models
     from dlkt.archive.read import SHARED
     from dlkt.archive.tree import Refused
@@ -115,6 +116,45 @@ class Faults(helping.Case):
                 self.assertEqual((run.returncode in (1, 2), made), (True, made if is_whole else ["sound"]))
                 self.assertNotIn("a", made)
                 subprocess.run(["rm", "-rf", str(folder)], check=True)
+
+
+@unittest.skipUnless(HAS_LARK, "the package lark isn't installed")
+class Tactics(helping.Case):
+    """Tactics that are carried over: the goals that they leave, or that the search takes over."""
+
+    def sketch(self, case):
+        """The model and the sketch of a case."""
+        archive = f'ArchiveEntry "a"\nProgramVariables Real x, y, v; End.\nProblem {case.formula} End.\nTactic "t" {case.tactic} End.\nEnd.\n'
+        (found,) = models(archive)
+        self.assertIsNone(found.fault)
+        return found.model, tactics.sketch_of(found.model.tactics[0], found.model)[0]
+
+    def goals(self, model, sketch):
+        """The goals that a sketch without a search leaves."""
+        words = self.file("model", model.text), self.file("strategy", sketch), str(self.folder / "term")
+        run = subprocess.run([helping.PROGRAM, "prove", *words], capture_output=True, text=True, check=False)
+        self.assertIn(run.returncode, (0, 1), f"{sketch}: {run.stdout}")
+        return re.findall(r"^goal \d+ (.*)$", run.stdout, re.MULTILINE)
+
+    @helping.needs_program
+    def test_they_leave_the_goals_of_the_tactic(self):
+        for case in archive_cases.translations():
+            with self.subTest(case.tactic):
+                model, sketch = self.sketch(case)
+                if case.wanted.startswith("auto"):
+                    hints = "auto(\"" in sketch
+                    self.assertEqual(case.wanted, "auto" if sketch == "auto" else "auto behind hints" if hints else "auto behind", sketch)
+                    self.assertFalse(folders.is_strategy(sketch))
+                    continue
+                found = self.goals(model, sketch)
+                self.assertTrue(folders.is_strategy(sketch))
+                if case.wanted != "*":
+                    self.assertEqual(found, [goal.strip() for goal in case.wanted.split(";;") if goal.strip()], sketch)
+
+    def test_a_laid_out_sketch_is_the_same(self):
+        for case in archive_cases.translations():
+            sketch = self.sketch(case)[1]
+            self.assertEqual(*(folders.without_places(strategies.read(text)) for text in (sketch, folders.laid_out_sketch(sketch))))
 
 
 if __name__ == "__main__":

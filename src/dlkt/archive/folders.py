@@ -4,10 +4,12 @@ of the rest: a file that isn't as it was written is never written over."""
 import hashlib
 import re
 from pathlib import Path
-from typing import Callable, NamedTuple
+from typing import NamedTuple
 
-from dlkt.program import are_same_file, put_at
+from dlkt import layout, strategies
 from dlkt.program import Refused as ToolRefused
+from dlkt.program import are_same_file, put_at
+from dlkt.strategies import Wrong
 
 from .models import Model
 from .replacements import lines_of, undefined
@@ -18,7 +20,6 @@ from .write import laid_out
 
 DIGITS = 12
 FIRST_LINE = re.compile(rf"[^\n]*\bdlkt import ([0-9a-f]{{{DIGITS}}})\b[^\n]*\n")
-Layout = Callable[[str], str]
 
 
 class Carried(NamedTuple):
@@ -65,10 +66,10 @@ def is_own(path: Path) -> bool:
     return found is not None and digest(text[found.end() :]) == found[1]
 
 
-def model_file(model: Model, archive: str, layout: Layout = laid_out) -> str:
+def model_file(model: Model, archive: str) -> str:
     """The text of the file `model`: what the archive says of the entry as comments, and the formula."""
     lines = [f"/* {comment(model.entry.name)} */"] + [f"/* {name}: {comment(text)} */" for name, text in model.about]
-    return marked("/* ", f" of {comment(archive)} */", "\n".join(lines) + f"\n{layout(model.text)}\n")
+    return marked("/* ", f" of {comment(archive)} */", "\n".join(lines) + f"\n{laid_out(model.tree, model.entry.place)}\n")
 
 
 def carried(model: Model) -> list[Carried]:
@@ -98,8 +99,26 @@ def strategy_files(model: Model, archive: str, tactics: list[Carried]) -> dict[s
         sketch = tactic.sketches.tries[0]
         name = ("strategy" if is_strategy(sketch) else "sketch") + ("" if number == 1 else f"_{number}")
         head = f"/* {comment(model.entry.name)}: tactic {comment(tactic.name)} */\n"
-        found[name] = marked("/* ", f" of {comment(archive)} */", f"{head}{sketch}\n")
+        found[name] = marked("/* ", f" of {comment(archive)} */", f"{head}{laid_out_sketch(sketch)}\n")
     return found
+
+
+def laid_out_sketch(sketch: str) -> str:
+    """The text of a sketch for people, which is read as the same sketch."""
+    try:
+        tree = strategies.read(sketch)
+        found = layout.laid_out_strategy(tree)
+        return found if without_places(strategies.read(found)) == without_places(tree) else sketch
+    except Wrong:
+        return sketch
+
+
+def without_places(part: strategies.Part) -> tuple[object, ...]:
+    """A strategy without its bytes, to compare it."""
+    if isinstance(part, strategies.Atom):
+        return part.name, tuple((argument.kind, argument.text) for argument in part.arguments)
+    times = part.times if isinstance(part, strategies.Repeat) else 0
+    return type(part).__name__, times, *map(without_places, strategies.kids(part))
 
 
 def readme_file(model: Model, archive: str, tactics: list[Carried]) -> str:

@@ -1,13 +1,12 @@
 """Texts of dlk from trees: the model with its annotations. What is written is read back, and must be the same tree with the same annotations."""
 
+from dlkt import layout
 from dlkt.reader import Note, Wrong, model
 from dlkt.trees import BRACKETS, ROWS, Tree, Trees, is_small, text
 
 from .tree import Node, Place, Refused, items
 
 TREES = Trees()
-BREAKS = ("&", ";", "++", "|", ", ", "}")
-WIDTH, LEAST = 130, 40
 
 
 def row_of(tree: Node) -> tuple[str, str]:
@@ -82,31 +81,11 @@ def written_model(tree: Node, place: Place) -> str:
     return found
 
 
-def laid_out(source: str) -> str:
-    """A model's text with line breaks at its outermost arrows and loops, where the lines get long."""
-    lines, depth, line, at = list[str](), 0, "", 0
-    while at < len(source):
-        letter = source[at]
-        depth += (letter in "([{") - (letter in ")]}")
-        if source.startswith(" -> ", at) and depth == 0:
-            lines += [line, "->"]
-            line, at = "", at + 4
-            continue
-        line += letter
-        at += 1
-    found = list[str]()
-    for one in [*lines, line]:
-        found += broken(one)
-    return "\n".join(found)
-
-
-def broken(line: str) -> list[str]:
-    """A long line in several."""
-    found = list[str]()
-    while len(line) > WIDTH:
-        cut = max((line.rfind(mark, LEAST, WIDTH) + len(mark) for mark in BREAKS), default=0)
-        if cut < LEAST:
-            break
-        found.append(line[:cut])
-        line = "  " + line[cut:]
-    return [*found, line]
+def laid_out(tree: Node, place: Place) -> str:
+    """The text of a model for people. It is read back, too; where it isn't the same, the text is that on one line."""
+    try:
+        found = layout.laid_out(dlk_tree(tree), notes_of(tree))
+        refuse_other(found, tree, place)
+        return found
+    except (Refused, ValueError):
+        return written_model(tree, place)
