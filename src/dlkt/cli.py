@@ -34,6 +34,7 @@ COMMANDS = {
     "readable": Command("dlkt.commands.readable"),
     "refute": Command("dlkt.commands.refute"),
     "words": Command("dlkt.words"),
+    "import": Command("dlkt.commands.import_"),
 }
 
 
