@@ -1,4 +1,4 @@
-"""A plain reading of what docs/FILES.md says of `link` and `trim`, over terms as tools/terms.py reads them: for comparison with the program, with which it
+"""A plain reading of what docs/FILES.md says of `link` and `trim`, over terms as src/dlkt/terms.py reads them: for comparison with the program, with which it
 shares no code. It works on steps that are taken: whether they are is for the program to say.
 """
 

@@ -5,7 +5,7 @@ import subprocess
 import unittest
 
 from helping import Case, PROGRAM, ROOT, needs_program
-from dlkt.calculus import AXIOMS  # behind helping, which puts tools/ on the path
+from dlkt.calculus import AXIOMS  # behind helping, which puts src/ on the path
 
 AXIOM = re.compile(r"\| `(\w+)` \| ([EQCRIF]) \| `(.*?)` \| ")
 RULE = re.compile(r"\| `(\w+)` \| `(.*?)` \| `(.*?)` \| ")

@@ -1,4 +1,4 @@
-"""Tests of what `tools/copies.py` lists."""
+"""Tests of what `dev/copies.py` lists."""
 
 import subprocess
 import sys
