@@ -32,6 +32,7 @@ COMMANDS = {
     "prompt": Command("dlkt.commands.prompt"),
     "readable": Command("dlkt.commands.readable"),
     "words": Command("dlkt.words"),
+    "lsp": Command("dlkt.commands.lsp"),
 }
 
 
