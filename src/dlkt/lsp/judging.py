@@ -5,6 +5,7 @@ the guard and the hints, then the solvers. So the fast part shows while a solver
 changed. What a solver said of a leaf is kept, by the leaf's text, and so is what was found of a pair of texts.
 """
 
+import functools
 import tempfile
 from pathlib import Path
 from typing import Iterator, NamedTuple
@@ -38,13 +39,28 @@ class Found(NamedTuple):
     marks: list[Mark]
 
 
-class Proof(NamedTuple):
-    """A strategy that runs: what was printed, the term as version 1, and the model's and the term's file."""
+class Proof:
+    """A strategy that runs: what was printed, and the files of the model and of the term. Which word made which line is looked for when it is
+    asked for, since most proofs have nothing to say of a line."""
 
-    said: Answer
-    term: str
-    model: Path
-    made: Path
+    def __init__(self, program: str, said: Answer, folder: Path, text: str) -> None:
+        self.program, self.said, self.text = program, said, text
+        self.model, self.made = folder / "model", folder / "term"
+
+    @functools.cached_property
+    def lines(self) -> list[tuple[str, str]]:
+        """The lines of the term, in full."""
+        return lines_of(self.term)
+
+    @functools.cached_property
+    def term(self) -> str:
+        """The term, as one of version 1."""
+        return readable(self.made.read_bytes())
+
+    @functools.cached_property
+    def words(self) -> list[tuple[int, str] | None]:
+        """For each line of the term the byte and the text of the word that made it."""
+        return words_of_lines(runs_in(self.program, self.model, self.text.encode().decode("latin-1"), self.term), len(self.lines))
 
 
 def shown_goal(goal: Goal) -> str:
@@ -126,8 +142,7 @@ class Judgement:
             if not has_report(said):
                 yield self.of_refusal(document, folder, said)
                 return
-            proof = Proof(said, readable((folder / "term").read_bytes()), folder / "model", folder / "term")
-            yield from self.of_proof(document, proof)
+            yield from self.of_proof(document, Proof(self.program, said, folder, document.text))
 
     def of_refusal(self, document: Document, folder: Path, said: Answer) -> Found:
         """Why a strategy doesn't run, at its place."""
@@ -164,8 +179,7 @@ class Judgement:
             marks.append(mark_at(document, len(document.text.rstrip().encode()) - 1, "information", f"left: {goal}"))
         goals = f"{len(report.goals)} goal{'s' * (len(report.goals) != 1)} left"
         yield Found("closed, asking guard and solvers .." if report.is_closed else goals, list(marks))
-        words = self.words_of(proof, document)
-        marks += self.of_guard(document, proof, words)
+        marks += self.of_guard(document, proof)
         is_guarded = not any(it.severity == "warning" for it in marks)
         data = document.text.encode()
         for it in hints.hints(self.program, str(proof.model), proof.model.read_bytes(), data, None, is_guarded):
@@ -173,7 +187,7 @@ class Judgement:
                 marks.append(mark_at(document, it.byte, "hint", it.text))
         yield Found("closed, asking the solvers .." if report.is_closed else goals, list(marks))
         bad = 0
-        for told in self.of_leaves(document, proof, report.leaves, words):
+        for told in self.of_leaves(document, proof, report.leaves):
             marks.append(told)
             bad += 1
             yield Found("closed, asking the solvers .." if report.is_closed else goals, list(marks))
@@ -188,25 +202,19 @@ class Judgement:
             return "not verified: " + "; ".join(reasons)
         return f"verified: closed, guarded, {leaves} leaves valid" if leaves else "verified: closed, guarded, no leaves"
 
-    def words_of(self, proof: Proof, document: Document) -> list[tuple[int, str] | None]:
-        """For each line of the term the byte and the text of the word that made it."""
-        text = document.text.encode().decode("latin-1")
-        return words_of_lines(runs_in(self.program, proof.model, text, proof.term), len(lines_of(proof.term)))
-
-    def of_guard(self, document: Document, proof: Proof, words: list[tuple[int, str] | None]) -> list[Mark]:
+    def of_guard(self, document: Document, proof: Proof) -> list[Mark]:
         """A mark at the word whose line isn't guarded."""
         first = answer(self.program, "guard", proof.model, proof.made).text.split("\n", 1)[0]
         if not first.startswith("unguarded line "):
             return []
         number, _, why = first.removeprefix("unguarded line ").partition(": ")
-        word = words[int(number) - 1] if int(number) <= len(words) else None
+        word = proof.words[int(number) - 1] if int(number) <= len(proof.words) else None
         return [mark_at(document, word[0] if word else 0, "warning", f"unguarded: line {number} of the term, {why} (docs/SOUNDNESS.md)")]
 
-    def of_leaves(self, document: Document, proof: Proof, leaves: list[str], words: list[tuple[int, str] | None]) -> Iterator[Mark]:
+    def of_leaves(self, document: Document, proof: Proof, leaves: list[str]) -> Iterator[Mark]:
         """A mark at the word of each leaf that no solver finds valid."""
         script = answer(self.program, "smt", proof.model, proof.made).text
         asked = questions(script)
-        lines = lines_of(proof.term)
         for number, leaf in enumerate(leaves):
             if leaf not in self.answers:
                 if len(asked) != len(leaves):
@@ -217,7 +225,7 @@ class Judgement:
                     self.answers[leaf] = said.word, f"false at {values}" if said.word == Word.FALSE and values else str(said.word)
             word, text = self.answers[leaf]
             if word != Word.VALID:
-                made = [it for line, it in zip(lines, words) if line == ("leaf", leaf) and it]
+                made = [it for line, it in zip(proof.lines, proof.words) if line == ("leaf", leaf) and it]
                 severity = "error" if word == Word.FALSE else "warning"
                 yield mark_at(document, made[0][0] if made else 0, severity, f"leaf {number + 1}: {leaf}: {text}")
 
