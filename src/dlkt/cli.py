@@ -35,6 +35,7 @@ COMMANDS = {
     "refute": Command("dlkt.commands.refute"),
     "words": Command("dlkt.words"),
     "import": Command("dlkt.commands.import_"),
+    "lsp": Command("dlkt.commands.lsp"),
 }
 
 
