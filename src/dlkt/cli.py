@@ -61,7 +61,9 @@ def main(words: Sequence[str]) -> int:
     """Does what the words say, and gives the exit status."""
     sys.setrecursionlimit(MOST_LEVELS)
     parser, commands = words_of_all()
-    for name, command in COMMANDS.items():
+    # the command that is named alone is imported, since all together take half a second
+    for name in [words[0]] if words and words[0] in COMMANDS else COMMANDS:
+        command = COMMANDS[name]
         module = importlib.import_module(command.module)
         one = commands.add_parser(
             name, help=module.HELP, description=module.HELP, epilog=f"Example: {module.EXAMPLE}",
