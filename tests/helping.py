@@ -73,13 +73,26 @@ class Case(unittest.TestCase):
         return str(path)
 
     def solver(self, name, *lines, version="1.2.3"):
-        """A solver that prints these lines, whatever it is asked."""
+        """A solver that gives these lines as its answer and, behind the first one, its values, whatever it is asked."""
+        said = [*lines, ""]
+        model = "\n".join(f"echo '{line}'" for line in said[1:] if line) or ":"
+        self.script_of_solver(name, f"""if [ "$1" = --version ]; then echo "version {version}"; exit; fi
+while read -r line; do
+  case $line in
+    "(check-sat)") echo '{said[0]}';;
+    "(get-model)") {model};;
+    "(echo "*) line=${{line#*\\"}}; echo "${{line%%\\"*}}";;
+  esac
+done
+""")
+
+    def script_of_solver(self, name, text):
+        """A solver that is this script of the shell."""
         if self.solvers is None:
             self.solvers = self.folder / "solvers"
             self.solvers.mkdir()
         script = self.solvers / name
-        said = "\n".join(f"echo '{line}'" for line in lines)
-        script.write_text(f'#!/bin/sh\nif [ "$1" = --version ]; then echo "version {version}"; exit; fi\n/bin/cat >/dev/null\n{said}\n')
+        script.write_text(f"#!/bin/sh\n{text}")
         script.chmod(0o755)
 
     def environment(self):

@@ -39,6 +39,6 @@ CONNECTIVES = "close closeTrue closeFalse notL notR andL orR implyR equivL andR 
 STEPS = "assignb dassignb assigneq testb choiceb composeb randomb diamond".split()
 
 
-def is_word(name):
+def is_word(name: str) -> bool:
     """Whether a strategy may have an atom of this name."""
     return name in PREMISES or name in LIBRARY or name in OTHER_WORDS

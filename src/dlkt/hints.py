@@ -2,11 +2,12 @@
 
 import difflib
 import re
-from typing import NamedTuple
+from typing import Iterable, Iterator, NamedTuple, Sequence
 
-from dlkt import strategies as strategytext
+from dlkt import strategies
 from dlkt.calculus import AXIOMS, LIBRARY, OTHER_WORDS, PREMISES, is_word
-from dlkt.program import answer, at_top, split_list
+from dlkt.program import Name, answer, at_top, split_list
+from dlkt.strategies import Atom, Part
 
 MARK_OF_ORDER = b"\xef\xbb\xbf"
 COMMENT = re.compile(rb"/\*.*?\*/|//[^\n]*", re.DOTALL)
@@ -27,6 +28,10 @@ OTHER_PROVERS = {
 }
 
 
+# A line of a term: its word, and what stands behind.
+Line = tuple[str, str]
+
+
 class Hint(NamedTuple):
     """A hint: the file that it is of (`model`, `strategy` or `term`), the byte, and what it says."""
 
@@ -35,12 +40,12 @@ class Hint(NamedTuple):
     text: str
 
 
-def blanked(data):
+def blanked(data: bytes) -> str:
     """The text of a file with blanks for its comments, one character a byte."""
     return COMMENT.sub(lambda found: re.sub(rb"[^\n]", b" ", found[0]), data).decode("latin-1")
 
 
-def near(name, names):
+def near(name: str, names: Iterable[str]) -> str:
     """A hint at a name that is written nearly so."""
     found = difflib.get_close_matches(name, names, 1, 0.6)
     return f"; is {found[0]} meant?" if found else ""
@@ -49,13 +54,13 @@ def near(name, names):
 class Names(NamedTuple):
     """The names of a text of the language of models, with their bytes: variables, and symbols with brackets behind them."""
 
-    variables: dict
-    symbols: dict
+    variables: dict[str, int]
+    symbols: dict[str, int]
 
 
-def names_of(text, begin=0):
+def names_of(text: str, begin: int = 0) -> Names:
     """The names of a text; each with the byte at which it stands first."""
-    variables, symbols = {}, {}
+    variables, symbols = dict[str, int](), dict[str, int]()
     for found in TOKEN.finditer(text):
         before = text[max(0, found.start() - 20) : found.start()].rstrip()
         if found[0] in KEYWORDS or before.endswith(("._", "@")):
@@ -66,7 +71,7 @@ def names_of(text, begin=0):
     return Names(variables, symbols)
 
 
-def of_files(model, strategy, term):
+def of_files(model: bytes, strategy: bytes, term: bytes | None) -> Iterator[Hint]:
     """Hints at the bytes of the files: marks of order, line ends, and an archive."""
     for file, data in (("model", model), ("strategy", strategy), ("term", term or b"")):
         if data.startswith(MARK_OF_ORDER):
@@ -79,18 +84,18 @@ def of_files(model, strategy, term):
         yield Hint("model", found.start(1), f"{word} is a keyword of archives: a model of dlk is the formula of the problem alone")
 
 
-def of_axioms(tree):
+def of_axioms(tree: Part) -> Iterator[Hint]:
     """Hints at names of axioms that are none: a choice or a repeat passes over their refusal."""
-    for atom in strategytext.atoms(tree):
+    for atom in strategies.atoms(tree):
         if atom.name in ("useAt", "useBack") and atom.arguments and atom.arguments[0].text not in AXIOMS:
             first = atom.arguments[0]
             yield Hint("strategy", first.begin, f"there is no axiom {first.text}{near(first.text, AXIOMS)}")
 
 
-def of_words(tree):
+def of_words(tree: Part) -> Iterator[Hint]:
     """Hints at words that are none."""
     words = [*PREMISES, *LIBRARY, *OTHER_WORDS]
-    for atom in strategytext.atoms(tree):
+    for atom in strategies.atoms(tree):
         if not is_word(atom.name):
             other = OTHER_PROVERS.get(atom.name)
             meant = f"; in its place stands {other}" if other else near(atom.name, words)
@@ -98,11 +103,11 @@ def of_words(tree):
             yield Hint("strategy", atom.begin, f"there is no word {atom.name}{axiom or meant}")
 
 
-def introduced(tree):
+def introduced(tree: Part) -> set[str]:
     """The names that a strategy brings in: those of bound variables that get another name, of ghosts, those that it is given, and those
     that axioms have."""
     names = {"x_", "y_", "t_", "s_"}
-    for atom in strategytext.atoms(tree):
+    for atom in strategies.atoms(tree):
         if atom.name in ("boundL", "boundR", "dG"):
             names |= {it.text for it in atom.arguments if it.kind == "name"}
         if atom.name in ("useAt", "useBack"):
@@ -111,7 +116,7 @@ def introduced(tree):
     return names
 
 
-def texts_of(atom):
+def texts_of(atom: Atom) -> Iterator[tuple[str, int]]:
     """The texts in quotes of an atom that are of the language of models, each with its first byte. Of a text of pairs only the right sides
     are, whose symbols are the axiom's own on the left."""
     for it in atom.arguments:
@@ -128,15 +133,15 @@ def texts_of(atom):
                 yield right, begin + end - 1 - len(right)
 
 
-def bound_in(text):
+def bound_in(text: str) -> set[str]:
     """The names that quantifiers and programs of a text bind."""
     return set(re.findall(r"\\(?:forall|exists)\s+(\w+)", text)) | set(re.findall(r"(\w+)\s*'?\s*:?=(?!=)", text) if "[" in text else ())
 
 
-def of_names(model, tree):
+def of_names(model: bytes, tree: Part) -> Iterator[Hint]:
     """Hints at names that stand in the strategy and not in the model."""
-    known, brought, told = names_of(blanked(model)), introduced(tree), set()
-    for atom in strategytext.atoms(tree):
+    known, brought, told = names_of(blanked(model)), introduced(tree), set[tuple[str, bool]]()
+    for atom in strategies.atoms(tree):
         for text, begin in texts_of(atom):
             found = names_of(text, begin)
             for name, byte in [*found.variables.items(), *found.symbols.items()]:
@@ -148,7 +153,7 @@ def of_names(model, tree):
                 yield Hint("strategy", byte, f"{name}{'()' if is_symbol else ''} isn't in the model{instead(name, is_symbol, known)}")
 
 
-def instead(name, is_symbol, known):
+def instead(name: str, is_symbol: bool, known: Names) -> str:
     """What the model has in place of a name."""
     if not is_symbol and name in known.symbols:
         return f", which has {name}(): with brackets it is a constant, without them a variable"
@@ -157,27 +162,27 @@ def instead(name, is_symbol, known):
     return near(name, known.symbols if is_symbol else known.variables)
 
 
-def of_functions(model, tree):
+def of_functions(model: bytes, tree: Part | None) -> Iterator[Hint]:
     """Hints at functions of other provers."""
     for name, byte in names_of(blanked(model)).symbols.items():
         if name in UNKNOWN_FUNCTIONS:
             yield Hint("model", byte, said_of_function(name))
-    for atom in strategytext.atoms(tree) if tree else ():
+    for atom in strategies.atoms(tree) if tree else ():
         for text, begin in texts_of(atom):
             for name, byte in names_of(text, begin).symbols.items():
                 if name in UNKNOWN_FUNCTIONS:
                     yield Hint("strategy", byte, said_of_function(name))
 
 
-def said_of_function(name):
+def said_of_function(name: str) -> str:
     """What a function of other provers is here."""
     how = {"abs": "abs(x)<=k is -k<=x&x<=k", "min": "min(x,y)>=k is x>=k&y>=k", "max": "max(x,y)<=k is x<=k&y<=k"}[name]
     return f"{name} is a symbol like any other, of which nothing is known: write it out, as {how}"
 
 
-def of_constants(program, path, model, tree):
+def of_constants(program: str, path: Name, model: bytes, tree: Part) -> Iterator[Hint]:
     """Hints at variables that no program of the model changes, where the strategy has a `dI`, which wants constants in brackets."""
-    if not any(atom.name == "dI" or (atom.arguments and atom.arguments[0].text == "DI") for atom in strategytext.atoms(tree)):
+    if not any(atom.name == "dI" or (atom.arguments and atom.arguments[0].text == "DI") for atom in strategies.atoms(tree)):
         return
     said = answer(program, "vars", path).text.split("\n")
     sets = {line.partition(": ")[0]: set(line.partition(": ")[2].split(", ")) for line in said}
@@ -188,20 +193,21 @@ def of_constants(program, path, model, tree):
             yield Hint("model", known[name], text)
 
 
-def needed_constant(pairs):
+def needed_constant(pairs: str) -> list[str]:
     """The variables that a use of `DI` with these pairs needs constant: those of its formula that its system doesn't evolve, and of which
     the domain doesn't say that they stand still."""
-    replaced = dict(part.split("~>", 1) for part in split_list(pairs) if "~>" in part)
+    parts = [part.partition("~>") for part in split_list(pairs)]
+    replaced = {symbol: text for symbol, arrow, text in parts if arrow}
     system, domain, formula = (replaced.get(symbol, "") for symbol in ("{c}", "q(||)", "p(||)"))
     evolved = set(re.findall(r"(\w+)'\s*=", system))
     still = set(re.findall(r"(\w+)'=0(?![\d.*/^+-])", domain))
     return [name for name in names_of(formula).variables if name not in evolved | still and name not in bound_in(formula)]
 
 
-def of_invariants(lines, words, *told):
+def of_invariants(lines: Sequence[Line], words: Sequence[tuple[int, str] | None], *first_told: tuple[int | None, str]) -> Iterator[Hint]:
     """Hints at each `dI` of a term that needs a variable constant, but for those told, as bytes and names. `words` says which word made
     which line."""
-    told = set(told)
+    told: set[tuple[int | None, str]] = set(first_told)
     for number, ((word, rest), (next_word, pairs)) in enumerate(zip(lines, lines[1:]), 1):
         made = words[number - 1] if number <= len(words) else None
         if (word, rest, next_word) != ("axiom", "DI", "subst") or made is None:
@@ -212,12 +218,12 @@ def of_invariants(lines, words, *told):
                 yield Hint("strategy", made[0], f"{made[1]} needs {name} constant, which is a variable that its equations don't change")
 
 
-def hints(program, model_path, model, strategy, term, is_guarded):
+def hints(program: str, model_path: Name, model: bytes, strategy: bytes, term: bytes | None, is_guarded: bool) -> list[Hint]:
     """All hints that need no proof. Of a guarded one no variable need be constant."""
     found = [*of_files(model, strategy, term)]
     try:
-        tree = strategytext.read(strategy.decode("latin-1"))
-    except strategytext.Wrong:
+        tree = strategies.read(strategy.decode("latin-1"))
+    except strategies.Wrong:
         return [*found, *of_functions(model, None)]
     found += [*of_axioms(tree), *of_words(tree), *of_names(model, tree), *of_functions(model, tree)]
     return found if is_guarded else [*found, *of_constants(program, model_path, model, tree)]

@@ -12,7 +12,7 @@ import subprocess
 import sys
 import tempfile
 from pathlib import Path
-from typing import NamedTuple
+from typing import Any, Callable, NamedTuple, Sequence
 
 ROOT = Path(__file__).resolve().parent.parent.parent
 BUILT = ROOT / "crates" / "dlk" / "out" / "dlk"
@@ -25,6 +25,11 @@ INTERRUPTED, UNREAD = 130, 141
 TERM_BEGINS = (b"1 ", b"dlk 2\n")
 
 REFUSAL = re.compile(r"refused: (?P<what>fails|budget|strategy|model|file|subst) at (?P<byte>\d+)(?:: (?P<why>\w+))?")
+
+
+# The name of a file, and the words of a command line.
+Name = str | Path
+Words = argparse.Namespace
 
 
 class Refused(Exception):
@@ -56,7 +61,7 @@ class Position(NamedTuple):
     caret: str
 
 
-def program_of(given=None):
+def program_of(given: str | None = None) -> str:
     """The program to run: the given one, that of the environment, or the built one. Refused where it isn't there."""
     program = str(given or os.environ.get("DLK") or BUILT)
     found = shutil.which(program)
@@ -65,7 +70,7 @@ def program_of(given=None):
     return str(Path(found).resolve())
 
 
-def answer(program, *words):
+def answer(program: str, *words: Name) -> Answer:
     """What the program answers to these words."""
     try:
         run = subprocess.run([program, *map(str, words)], capture_output=True, check=False)
@@ -74,35 +79,36 @@ def answer(program, *words):
     return Answer(run.returncode, run.stdout.decode("utf-8", "replace"), run.stderr.decode("utf-8", "replace"))
 
 
-def complaint_of(said):
+def complaint_of(said: Answer) -> str:
     """The one line by which the program says why it gave no report."""
     lines = [line for line in (said.text + "\n" + said.complaint).split("\n") if line.strip()]
     return lines[0].strip() if lines else f"the program ends with status {said.status}, and says nothing"
 
 
-def has_report(said):
+def has_report(said: Answer) -> bool:
     """Whether the answer is that to an accepted proof: closed, or with goals left."""
     return said.status in (CLOSED, GOALS_LEFT)
 
 
-def report_of(program, model, term):
+def report_of(program: str, model: Name, term: Name) -> dict[str, Any]:
     """The report of an accepted term: its keys are conclusion, goals, leaves, lines and status."""
     said = answer(program, "report", model, term)
     if not has_report(said):
         raise Refused(complaint_of(said))
-    return json.loads(said.text)
+    told: dict[str, Any] = json.loads(said.text)
+    return told
 
 
 class Report(NamedTuple):
     """A printed report: whether the proof is closed, its goals and its leaves as texts, and how many lines the term has."""
 
     is_closed: bool
-    goals: list
-    leaves: list
+    goals: list[str]
+    leaves: list[str]
     lines: int
 
 
-def printed_report(said):
+def printed_report(said: Answer) -> Report:
     """The report that an answer prints. Refused where it is none, or says another number of goals or leaves than it lists."""
     first = said.text.split("\n", 1)[0]
     counts = dict(re.findall(r"^(goals|leaves|lines) (\d+)$", said.text, re.MULTILINE))
@@ -114,23 +120,23 @@ def printed_report(said):
     return Report(is_closed, goals, leaves, int(counts["lines"]))
 
 
-def goals_in(text):
+def goals_in(text: str) -> list[str]:
     """The goals of a printed report."""
     return re.findall(r"^goal \d+ (.*)$", text, re.MULTILINE)
 
 
-def leaves_in(text):
+def leaves_in(text: str) -> list[str]:
     """The leaves of a printed report."""
     return re.findall(r"^leaf \d+ (.*)$", text, re.MULTILINE)
 
 
-def refusal_in(text):
+def refusal_in(text: str) -> Refusal | None:
     """The refusal that names a byte, or none."""
     found = REFUSAL.match(text)
     return Refusal(found["what"], int(found["byte"]), found["why"] or "") if found else None
 
 
-def read_bytes(path):
+def read_bytes(path: Name) -> bytes:
     """The bytes of a file. Refused in one line where they can't be read."""
     try:
         return Path(path).read_bytes()
@@ -140,19 +146,19 @@ def read_bytes(path):
         raise Refused(f"{path!r} can't be the name of a file") from fault
 
 
-def one_line(text):
+def one_line(text: str) -> str:
     """A text, as the name of a file, with escapes for what would end a line or change how it is shown."""
     return "".join(letter if letter.isprintable() else letter.encode("unicode_escape").decode() for letter in text)
 
 
-def seconds(text):
+def seconds(text: str) -> int:
     """A number of seconds from 1 on, of a command line."""
     if not re.fullmatch(r"[1-9]\d{0,5}", text):
         raise argparse.ArgumentTypeError(f"{text} is no number of seconds from 1 on")
     return int(text)
 
 
-def position(text, byte):
+def position(text: str | bytes, byte: int) -> Position:
     """Where a byte of a text stands. The text is bytes, or a string of one byte a character."""
     data = text if isinstance(text, bytes) else text.encode("latin-1", "replace")
     byte = min(byte, len(data))
@@ -164,9 +170,10 @@ def position(text, byte):
     return Position(data.count(b"\n", 0, byte) + 1, len(before) + 1, source, blank + "^")
 
 
-def at_top(text, marks):
+def at_top(text: str, marks: Sequence[str]) -> list[tuple[int, str]]:
     """Where each of these marks stands outside all brackets: its place and itself."""
-    found, depth = [], 0
+    found: list[tuple[int, str]] = []
+    depth = 0
     for at, letter in enumerate(text):
         depth += (letter in "([{") - (letter in ")]}")
         if depth == 0:
@@ -174,7 +181,7 @@ def at_top(text, marks):
     return found
 
 
-def split_list(text):
+def split_list(text: str) -> list[str]:
     """The formulas of a list with commas between."""
     if not text.strip():
         return []
@@ -185,7 +192,7 @@ def split_list(text):
     return [*found, text[begin:].strip()]
 
 
-def split_sequent(text):
+def split_sequent(text: str) -> tuple[list[str], list[str]] | None:
     """The formulas on the left and those on the right of a sequent; none where it is no sequent."""
     arrows = at_top(text, ["==>"])
     if not arrows:
@@ -194,23 +201,23 @@ def split_sequent(text):
     return split_list(text[:at]), split_list(text[at + 3 :])
 
 
-def numbered(sequent):
+def numbered(sequent: str) -> tuple[list[tuple[int, str]], list[tuple[int, str]]]:
     """The formulas of a sequent, each with its place: -1, -2 and so on on the left, 1, 2 and so on on the right."""
     left, right = split_sequent(sequent) or ([], [sequent])
     places = [(-place, formula) for place, formula in enumerate(left, 1)]
     return places, list(enumerate(right, 1))
 
 
-def shown(sequent, indent="    "):
+def shown(sequent: str, indent: str = "    ") -> list[str]:
     """The lines of a sequent, a formula each with its place, and the arrow between the sides."""
     left, right = numbered(sequent)
     lines = [f"{indent}{place:>3}: {formula}" for place, formula in left]
     return [*lines, f"{indent}     ==>", *(f"{indent}{place:>3}: {formula}" for place, formula in right)]
 
 
-def are_same_file(one, other):
+def are_same_file(name: Name, other_name: Name) -> bool:
     """Whether two names are those of one file: by name, by a link, or by another path."""
-    one, other = Path(one), Path(other)
+    one, other = Path(name), Path(other_name)
     try:
         if one.exists() and other.exists() and one.samefile(other):
             return True
@@ -219,7 +226,7 @@ def are_same_file(one, other):
         return os.path.abspath(one) == os.path.abspath(other)
 
 
-def is_loop(path):
+def is_loop(path: Path) -> bool:
     """Whether a name is that of a link that leads back to itself."""
     try:
         path.resolve()
@@ -228,7 +235,7 @@ def is_loop(path):
     return False
 
 
-def refuse_bad_output(target, inputs, begins, kind):
+def refuse_bad_output(target: str, inputs: Sequence[Name], begins: Sequence[bytes], kind: str) -> None:
     """Refuses an output that is an input, can't be written, or has something else in it than what it is to hold: a file of this kind begins in
     one of these ways."""
     for name in inputs:
@@ -250,7 +257,7 @@ def refuse_bad_output(target, inputs, begins, kind):
             raise Refused(f"{target} holds something else than {kind}: it isn't written over; name another file, or remove it")
 
 
-def put_at(data, target):
+def put_at(data: bytes, target: Name) -> None:
     """Puts these bytes at their place, whole or not at all. What is no plain file is written to."""
     path = Path(target).resolve()
     if path.exists() and not path.is_file():
@@ -259,7 +266,7 @@ def put_at(data, target):
     try:
         number, name = tempfile.mkstemp(prefix=f".{path.name}.", dir=path.parent)
     except OSError as fault:
-        raise Refused(f"{target}: {fault.strerror.lower()}") from fault
+        raise Refused(f"{target}: {(fault.strerror or str(fault)).lower()}") from fault
     try:
         with os.fdopen(number, "wb") as file:
             file.write(data)
@@ -272,7 +279,7 @@ def put_at(data, target):
         raise
 
 
-def ended(name, work, words, refused=INPUT_REFUSED):
+def ended(name: str, work: Callable[[Words], int], words: Words, refused: int = INPUT_REFUSED) -> int:
     """Does a tool's work, and gives its exit status: a refusal and control-C come to one line, with no trace."""
     open_streams()
     try:
@@ -295,7 +302,7 @@ def ended(name, work, words, refused=INPUT_REFUSED):
         return refused
 
 
-def open_streams():
+def open_streams() -> None:
     """Gives the tool an output and an error output where it was started without one, and lets both take every text: a letter that can't be
     written stands as its escape."""
     for name in ("stdout", "stderr"):
@@ -304,7 +311,7 @@ def open_streams():
         getattr(sys, name).reconfigure(errors="backslashreplace")
 
 
-def drop_output():
+def drop_output() -> None:
     """Lets go what waits to be written and can't be, so that nothing more is said of it at the end."""
     try:
         sys.stdout.flush()

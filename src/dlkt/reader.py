@@ -5,9 +5,9 @@ the limits aren't looked at. Nothing of this is proved.
 """
 
 import re
-from typing import NamedTuple
+from typing import Callable, Mapping, NamedTuple, NoReturn, Sequence, TypeVar
 
-from dlkt.trees import FORMULA, TERM, Tree
+from dlkt.trees import FORMULA, TERM, Tree, Trees
 
 TOKEN = re.compile(
     r"(?P<blank>(?:[ \t\r\n]|/\*.*?\*/|//[^\n]*)+)|(?P<word>[A-Za-z][A-Za-z0-9_]*)|(?P<number>[0-9]+(?:\.[0-9]+)?)|(?P<dot>\._[0-7])"
@@ -17,12 +17,13 @@ TOKEN = re.compile(
 COMPARISONS = {"=": "eq", "!=": "ne", ">=": "ge", ">": "gt", "<=": "le", "<": "lt"}
 SUMS, PRODUCTS = {"+": "add", "-": "sub"}, {"*": "mul", "/": "div"}
 END = "end"
+Part = TypeVar("Part")
 
 
 class Wrong(Exception):
     """The text is none of its kind from this byte on."""
 
-    def __init__(self, byte):
+    def __init__(self, byte: int) -> None:
         super().__init__(f"no text goes on at byte {byte}")
         self.byte = byte
 
@@ -46,24 +47,25 @@ class Note(NamedTuple):
     """What stands in `@invariant(..)` behind a loop or a system: the tree of the program, and the formulas."""
 
     program: Tree
-    formulas: tuple
+    formulas: tuple[Tree, ...]
 
 
-def canonical(number):
+def canonical(number: str) -> str:
     """The text of a number without zeros in front and at the end of its fraction."""
     integer, _, fraction = number.partition(".")
     fraction = fraction.rstrip("0")
     return (integer.lstrip("0") or "0") + (f".{fraction}" if fraction else "")
 
 
-def tokens(text):
+def tokens(text: str) -> list[Token]:
     """The tokens of a text, and its end."""
-    found, at = [], 0
+    found: list[Token] = []
+    at = 0
     while at < len(text):
         here = TOKEN.match(text, at)
         if here is None:
             raise Wrong(at)
-        kind, said = here.lastgroup, here[0]
+        kind, said = here.lastgroup or "", here[0]
         if kind == "word" and said in ("true", "false"):
             kind = "mark"
         if kind != "blank":
@@ -75,56 +77,56 @@ def tokens(text):
 class Reader:
     """Reads a text from front to end, into these trees."""
 
-    def __init__(self, text, trees):
+    def __init__(self, text: str, trees: Trees) -> None:
         self.tokens, self.at, self.make = tokens(text), 0, trees.make
-        self.notes = []
+        self.notes: list[Note] = []
 
     # Tokens
 
-    def sees(self, *texts):
+    def sees(self, *texts: str) -> bool:
         """Whether these tokens stand here."""
         here = self.tokens[self.at : self.at + len(texts)]
         return [token.text for token in here] == list(texts) and here[-1].kind != END
 
-    def next(self):
+    def next(self) -> str:
         """The text of the token here, which is gone over."""
         self.at += 1
         return self.tokens[self.at - 1].text
 
-    def take(self, *texts):
+    def take(self, *texts: str) -> bool:
         """Goes over these tokens, where they stand here."""
         if not self.sees(*texts):
             return False
         self.at += len(texts)
         return True
 
-    def need(self, text):
+    def need(self, text: str) -> None:
         """Goes over a token that must stand here."""
         if not self.take(text):
             self.stop()
 
-    def stop(self):
+    def stop(self) -> NoReturn:
         """Refuses the text at the token here."""
         raise Wrong(self.tokens[self.at].byte)
 
-    def name(self):
+    def name(self) -> str:
         """A name, which must stand here."""
         if self.tokens[self.at].kind != "word":
             self.stop()
         return self.next()
 
-    def behind(self, ahead):
+    def behind(self, ahead: int) -> Token:
         """The token so many places ahead."""
         return self.tokens[min(self.at + ahead, len(self.tokens) - 1)]
 
-    def whole(self, part):
+    def whole(self, part: Callable[[], Part]) -> Part:
         """What a reader reads, behind which the text must end."""
         found = part()
         if self.tokens[self.at].kind != END:
             self.stop()
         return found
 
-    def listed(self, part):
+    def listed(self, part: Callable[[], Part]) -> list[Part]:
         """One or more parts with commas between."""
         found = [part()]
         while self.take(","):
@@ -133,30 +135,30 @@ class Reader:
 
     # Formulas
 
-    def formula(self):
+    def formula(self) -> Tree:
         """A formula."""
         return self.must(self.either(), FORMULA)
 
-    def term(self):
+    def term(self) -> Tree:
         """A term."""
         return self.must(self.sum(), TERM)
 
-    def must(self, either, sort):
+    def must(self, either: Either, sort: str) -> Tree:
         """What the text is of this sort, which it must be."""
         found = either.formula if sort == FORMULA else either.term
         if found is None:
             self.stop()
         return found
 
-    def either(self):
+    def either(self) -> Either:
         """A formula or a term, from the loosest operator on."""
         return self.right_side("equiv", "<->", lambda: self.right_side("imply", "->", self.disjunction))
 
-    def disjunction(self):
+    def disjunction(self) -> Either:
         """A formula of `|` and what binds tighter, or a term."""
         return self.right_side("or", "|", lambda: self.right_side("and", "&", self.unary))
 
-    def right_side(self, word, mark, part):
+    def right_side(self, word: str, mark: str, part: Callable[[], Either]) -> Either:
         """Parts with an operator between that groups to the right."""
         parts = [part()]
         while self.take(mark):
@@ -166,12 +168,12 @@ class Reader:
             return parts[0]
         found = self.must(parts[-1], FORMULA)
         for one in reversed(parts[:-1]):
-            found = self.make(word, "", one.formula, found)
+            found = self.make(word, "", self.must(one, FORMULA), found)
         return Either(None, found)
 
-    def unary(self):
+    def unary(self) -> Either:
         """A formula behind prefixes, a comparison, or a term."""
-        prefixes = []
+        prefixes: list[tuple[str, str, tuple[Tree, ...]]] = []
         while True:
             if self.take("!"):
                 prefixes.append(("not", "", ()))
@@ -192,26 +194,26 @@ class Reader:
             formula = self.make(word, detail, *before, formula)
         return Either(None, formula)
 
-    def comparison(self):
+    def comparison(self) -> Either:
         """A comparison, a formula without an operator in front, or a term."""
         for word, text in (("true", "true"), ("false", "false"), ("hole", "_")):
             if self.take(text):
                 return Either(None, self.make(word))
         left = self.sum()
-        word = COMPARISONS.get(self.tokens[self.at].text)
-        if word is None:
+        comparison = COMPARISONS.get(self.tokens[self.at].text)
+        if comparison is None:
             return left
         term = self.must(left, TERM)
         self.next()
-        return Either(None, self.make(word, "", term, self.term()))
+        return Either(None, self.make(comparison, "", term, self.term()))
 
     # Terms
 
-    def sum(self):
+    def sum(self) -> Either:
         """Terms with `+` and `-` between, or what stands in their place."""
         return self.left_side(SUMS, lambda: self.left_side(PRODUCTS, self.signed))
 
-    def left_side(self, words, part):
+    def left_side(self, words: Mapping[str, str], part: Callable[[], Either]) -> Either:
         """Parts with operators between that group to the left."""
         found = part()
         while self.tokens[self.at].text in words and self.tokens[self.at].kind == "mark":
@@ -220,7 +222,7 @@ class Reader:
             found = Either(self.make(word, "", left, self.must(part(), TERM)), None)
         return found
 
-    def signed(self):
+    def signed(self) -> Either:
         """A term behind signs, or what stands in its place."""
         signs = 0
         while self.take("-"):
@@ -233,7 +235,7 @@ class Reader:
             term = self.make("neg", "", term)
         return Either(term, None)
 
-    def power(self):
+    def power(self) -> Either:
         """A power, or its base alone."""
         base = self.primary()
         if not self.sees("^"):
@@ -242,7 +244,7 @@ class Reader:
         self.next()
         return Either(self.make("pow", "", term, self.must(self.signed(), TERM)), None)
 
-    def primary(self):
+    def primary(self) -> Either:
         """A term or a formula without an operator outside brackets."""
         token = self.tokens[self.at]
         if token.kind == "number":
@@ -258,7 +260,7 @@ class Reader:
             return found
         return Either(*(kid and self.make(word, "", kid) for word, kid in (("diff", found.term), ("difff", found.formula))))
 
-    def named(self, name):
+    def named(self, name: str) -> Either:
         """A variable or a symbol with its arguments, behind its name."""
         if self.take("'"):
             return Either(self.make("var", f"{name}'"), None)
@@ -280,28 +282,28 @@ class Reader:
 
     # Programs
 
-    def program(self):
+    def program(self) -> Tree:
         """A program."""
         parts = [self.sequence()]
         while self.take("++"):
             parts.append(self.sequence())
         return self.grouped("choice", parts)
 
-    def grouped(self, word, parts):
+    def grouped(self, word: str, parts: Sequence[Tree]) -> Tree:
         """Parts of an operator that groups to the right."""
         found = parts[-1]
         for part in reversed(parts[:-1]):
             found = self.make(word, "", part, found)
         return found
 
-    def sequence(self):
+    def sequence(self) -> Tree:
         """Statements one after another."""
         parts = [self.statement()]
         while self.tokens[self.at].kind == "word" or self.sees("?") or self.sees("{"):
             parts.append(self.statement())
         return self.grouped("seq", parts)
 
-    def statement(self):
+    def statement(self) -> Tree:
         """A statement."""
         if self.take("?"):
             found = self.make("test", "", self.formula())
@@ -320,7 +322,7 @@ class Reader:
         self.need(";")
         return found
 
-    def group(self):
+    def group(self) -> Tree:
         """A program or a system in braces, a star and an invariant behind it, where they are there."""
         found = self.braced()
         if self.take("*"):
@@ -332,7 +334,7 @@ class Reader:
         self.take(";")
         return found
 
-    def braced(self):
+    def braced(self) -> Tree:
         """A program or a system in braces."""
         after, later = self.behind(2).text, self.behind(3).text
         is_item = self.behind(1).kind == "word" and (after in (",", "}", "&", "{|") or after == "'" and later == "=")
@@ -343,7 +345,7 @@ class Reader:
         self.need("}")
         return found
 
-    def system(self):
+    def system(self) -> Tree:
         """A system in braces."""
         self.need("{")
         items, terms = [], []
@@ -354,7 +356,7 @@ class Reader:
         self.need("}")
         return self.make("system", ",".join(items), *terms, domain)
 
-    def item(self):
+    def item(self) -> tuple[str, list[Tree]]:
         """An item of a system, and its term where it has one."""
         name = self.name()
         if self.take("'"):
@@ -367,17 +369,17 @@ class Reader:
 
     # Sequents and substitutions
 
-    def sequent(self):
+    def sequent(self) -> tuple[list[Tree], list[Tree]]:
         """The formulas of both sides of a sequent."""
         left = [] if self.sees("==>") else self.listed(self.formula)
         self.need("==>")
         return left, [] if self.tokens[self.at].kind == END else self.listed(self.formula)
 
-    def pairs(self):
+    def pairs(self) -> list[tuple[str, Tree]]:
         """The pairs of a substitution: each a symbol in its canonical spelling, and a tree."""
         return [] if self.tokens[self.at].kind == END else self.listed(self.pair)
 
-    def pair(self):
+    def pair(self) -> tuple[str, Tree]:
         """A pair."""
         is_term = self.sees("term") and self.behind(1).kind == "word"
         self.at += is_term
@@ -395,11 +397,9 @@ class Reader:
         symbol = name + self.arguments()
         self.need("~>")
         found = self.either()
-        if found.term is None and found.formula is None:
-            self.stop()
-        return symbol, found.term if is_term or found.formula is None else found.formula
+        return symbol, self.must(found, TERM if is_term or found.formula is None else FORMULA)
 
-    def ode(self):
+    def ode(self) -> str:
         """The symbol of an ODE constant."""
         self.need("{")
         item, terms = self.item()
@@ -408,7 +408,7 @@ class Reader:
             self.stop()
         return f"{{{item}}}"
 
-    def arguments(self):
+    def arguments(self) -> str:
         """The brackets behind the name of a symbol."""
         if self.take("(||)"):
             return "(||)"
@@ -417,7 +417,7 @@ class Reader:
             self.need("|)")
             return f"(|{taboo}|)"
         self.need("(")
-        dots = []
+        dots: list[str] = []
         while not self.sees(")"):
             if dots:
                 self.need(",")
@@ -428,36 +428,36 @@ class Reader:
         return f"({','.join(dots)})"
 
 
-def formula(text, trees):
+def formula(text: str, trees: Trees) -> Tree:
     """The tree of a formula."""
     reader = Reader(text, trees)
     return reader.whole(reader.formula)
 
 
-def model(text, trees):
+def model(text: str, trees: Trees) -> tuple[Tree, list[Note]]:
     """The tree of a model, and its annotations in the order in which their ends stand."""
     reader = Reader(text, trees)
     return reader.whole(reader.formula), reader.notes
 
 
-def sequent(text, trees):
+def sequent(text: str, trees: Trees) -> tuple[list[Tree], list[Tree]]:
     """The trees on the two sides of a sequent."""
     reader = Reader(text, trees)
     return reader.whole(reader.sequent)
 
 
-def pairs(text, trees):
+def pairs(text: str, trees: Trees) -> list[tuple[str, Tree]]:
     """The pairs of a substitution."""
     reader = Reader(text, trees)
     return reader.whole(reader.pairs)
 
 
-def expression(text, trees):
+def expression(text: str, trees: Trees) -> Tree:
     """The tree of a formula, a program or a term; what is a formula and a term is taken as the formula."""
     reader = Reader(text, trees)
     try:
         found = reader.whole(reader.either)
-        return found.term if found.formula is None else found.formula
+        return reader.must(found, TERM if found.formula is None else FORMULA)
     except Wrong:
         reader = Reader(text, trees)
         return reader.whole(reader.program)

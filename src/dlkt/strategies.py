@@ -4,7 +4,7 @@ The text is a string of one character a byte (`latin-1`), so that places in it a
 """
 
 import re
-from typing import NamedTuple
+from typing import NamedTuple, Union
 
 # Whether a word is one, and its arguments are those that it wants, is for the program to judge: here only the syntax is read.
 BLANK = re.compile(r"(?:\s|/\*.*?\*/)*", re.DOTALL)
@@ -19,7 +19,7 @@ MOST_LEVELS = 64
 class Wrong(Exception):
     """The text is no strategy from this byte on."""
 
-    def __init__(self, byte):
+    def __init__(self, byte: int) -> None:
         super().__init__(f"no strategy goes on at byte {byte}")
         self.byte = byte
 
@@ -38,7 +38,7 @@ class Atom(NamedTuple):
     begin: int
     end: int
     name: str
-    arguments: tuple
+    arguments: tuple[Argument, ...]
 
 
 class Choice(NamedTuple):
@@ -46,7 +46,7 @@ class Choice(NamedTuple):
 
     begin: int
     end: int
-    parts: tuple
+    parts: "tuple[Part, ...]"
 
 
 class Sequence(NamedTuple):
@@ -54,7 +54,7 @@ class Sequence(NamedTuple):
 
     begin: int
     end: int
-    parts: tuple
+    parts: "tuple[Part, ...]"
 
 
 class Branch(NamedTuple):
@@ -62,7 +62,7 @@ class Branch(NamedTuple):
 
     begin: int
     end: int
-    parts: tuple
+    parts: "tuple[Part, ...]"
 
 
 class Repeat(NamedTuple):
@@ -70,26 +70,31 @@ class Repeat(NamedTuple):
 
     begin: int
     end: int
-    body: object
+    body: "Part"
     times: int
+
+
+# A strategy, and each part of one.
+Part = Union[Atom, Choice, Sequence, Branch, Repeat]
 
 
 class Reader:
     """Reads a strategy from front to end."""
 
-    def __init__(self, text):
+    def __init__(self, text: str) -> None:
         self.text, self.at, self.levels = text, 0, 0
         self.skip()
 
-    def skip(self):
+    def skip(self) -> None:
         """Goes over blanks and comments."""
-        self.at = BLANK.match(self.text, self.at).end()
+        found = BLANK.match(self.text, self.at)
+        self.at = found.end() if found else self.at
 
-    def sees(self, mark):
+    def sees(self, mark: str) -> bool:
         """Whether this mark stands here."""
         return self.text.startswith(mark, self.at)
 
-    def take(self, mark):
+    def take(self, mark: str) -> bool:
         """Goes over a mark and the blanks behind it, where it stands here."""
         if not self.sees(mark):
             return False
@@ -97,12 +102,12 @@ class Reader:
         self.skip()
         return True
 
-    def need(self, mark):
+    def need(self, mark: str) -> None:
         """Goes over a mark that must stand here."""
         if not self.take(mark):
             raise Wrong(self.at)
 
-    def match(self, pattern):
+    def match(self, pattern: re.Pattern[str]) -> re.Match[str]:
         """What the pattern matches here, without the blanks behind it, and its end."""
         found = pattern.match(self.text, self.at)
         if not found:
@@ -111,28 +116,28 @@ class Reader:
         self.skip()
         return found
 
-    def whole(self):
+    def whole(self) -> Part:
         """The strategy, behind which the text ends."""
         node = self.strategy()
         if self.at != len(self.text):
             raise Wrong(self.at)
         return node
 
-    def strategy(self):
+    def strategy(self) -> Part:
         """Sequences with `|` between."""
         parts = [self.sequence()]
         while self.take("|"):
             parts.append(self.sequence())
         return parts[0] if len(parts) == 1 else Choice(parts[0].begin, parts[-1].end, tuple(parts))
 
-    def sequence(self):
+    def sequence(self) -> Part:
         """Parts with `;` between."""
         parts = [self.repeated()]
         while self.take(";"):
             parts.append(self.branch() if self.sees("<(") else self.repeated())
         return parts[0] if len(parts) == 1 else Sequence(parts[0].begin, parts[-1].end, tuple(parts))
 
-    def opens(self, mark):
+    def opens(self, mark: str) -> bool:
         """Goes over a mark that opens a level, where it stands here."""
         if self.sees(mark) and self.levels == MOST_LEVELS:
             raise Wrong(self.at)
@@ -140,14 +145,14 @@ class Reader:
         self.levels += opened
         return opened
 
-    def closes(self):
+    def closes(self) -> int:
         """Goes over the bracket that ends a level, and answers the byte behind it."""
         end = self.at + 1
         self.need(")")
         self.levels -= 1
         return end
 
-    def branch(self):
+    def branch(self) -> Branch:
         """`<(`, strategies with commas between, and `)`."""
         begin = self.at
         self.opens("<(")
@@ -156,7 +161,7 @@ class Reader:
             parts.append(self.strategy())
         return Branch(begin, self.closes(), tuple(parts))
 
-    def repeated(self):
+    def repeated(self) -> Part:
         """A part, and how often it is repeated."""
         node = self.primary()
         while self.take("*"):
@@ -164,7 +169,7 @@ class Reader:
             node = Repeat(node.begin, number.end(), node, int(number[0]))
         return node
 
-    def primary(self):
+    def primary(self) -> Part:
         """A strategy in brackets, with them, or an atom."""
         begin = self.at
         if self.opens("("):
@@ -182,7 +187,7 @@ class Reader:
         self.need(")")
         return Atom(name.start(), end, name[0], tuple(arguments))
 
-    def argument(self):
+    def argument(self) -> Argument:
         """A place, a locator, a name or a text in quotes."""
         begin = self.at
         if self.sees("'"):
@@ -194,21 +199,21 @@ class Reader:
         return Argument("place", re.sub(r"\s", "", self.match(PLACE)[0]), begin)
 
 
-def read(text):
+def read(text: str) -> Part:
     """The strategy of a text. `Wrong` where it is none."""
     return Reader(text).whole()
 
 
-def kids(node):
+def kids(node: Part) -> tuple[Part, ...]:
     """The parts of a part."""
     if isinstance(node, Atom):
         return ()
     return (node.body,) if isinstance(node, Repeat) else node.parts
 
 
-def atoms(node):
+def atoms(node: Part) -> list[Atom]:
     """The atoms of a strategy, in the order of the text."""
-    waiting, found = [node], []
+    waiting, found = [node], list[Atom]()
     while waiting:
         here = waiting.pop()
         if isinstance(here, Atom):
@@ -217,7 +222,7 @@ def atoms(node):
     return found
 
 
-def way_to(node, byte):
+def way_to(node: Part, byte: int) -> list[Part] | None:
     """The parts from the whole down to the atom or the branch that begins at a byte; none where nothing begins there."""
     if isinstance(node, (Atom, Branch)) and node.begin == byte:
         return [node]
@@ -229,6 +234,6 @@ def way_to(node, byte):
     return None
 
 
-def line_of(text, node):
+def line_of(text: str, node: Part) -> str:
     """The text of a part on one line."""
     return re.sub(r"\s+", " ", re.sub(r"/\*.*?\*/", " ", text[node.begin : node.end], flags=re.DOTALL)).strip()

@@ -7,12 +7,12 @@ Nothing of this is proved.
 """
 
 import re
-from typing import NamedTuple
+from typing import Callable, NamedTuple, Sequence
 
-from dlkt import reader as texts
+from dlkt import reader
 from dlkt.calculus import PREMISES
 from dlkt.program import Refused
-from dlkt.trees import DETAILS, FORMULA, NAME, ROWS, SYMBOL, Trees, fits, is_small, may_replace, pair_text, sequent_text, text
+from dlkt.trees import DETAILS, FORMULA, NAME, ROWS, SYMBOL, Tree, Trees, fits, is_small, may_replace, pair_text, sequent_text, text
 
 HEAD, END = "dlk 2", "done"
 NUMBER = "[1-9][0-9]{0,8}"
@@ -42,7 +42,7 @@ PAIR = re.compile(rf"({SYMBOL})~>({NUMBER})")
 class Wrong(Refused):
     """The first wrong line of a term, as `check` names it: its place in the file, and why."""
 
-    def __init__(self, place, why):
+    def __init__(self, place: int, why: str) -> None:
         super().__init__(f"line {place}: {why}")
         self.place, self.why = place, why
 
@@ -51,37 +51,51 @@ class Malformed(Exception):
     """A line that has none of the forms."""
 
 
+Sides = tuple[list[Tree], list[Tree]]
+Pairs = list[tuple[str, Tree]]
+
+
 class Step(NamedTuple):
     """A step: its number, the line of the file on which it stands, its word, what stands behind the word and before its trees, and those: two
-    lists (`start`, `leaf`), a list of symbols with a tree each (`subst`), a tree (a rule with a formula), or none."""
+    sides (`start`, `leaf`), symbols with a tree each (`subst`), or the formula of a rule that has one."""
 
     number: int
     place: int
     word: str
     rest: str
-    trees: object = None
+    sides: Sides | None = None
+    pairs: Pairs | None = None
+    formula: Tree | None = None
+
+
+class Readers(NamedTuple):
+    """Readers of the trees of a step."""
+
+    sides: Callable[[str], Sides]
+    pairs: Callable[[str], Pairs]
+    formula: Callable[[str], Tree]
 
 
 class Term(NamedTuple):
     """A term file: its version, its steps, and how many nodes it has, or none in version 1."""
 
     version: int
-    steps: list
+    steps: list[Step]
     nodes: int | None
 
 
-def decoded(data):
+def decoded(data: str | bytes) -> str:
     """The text of a file, a character a byte."""
     return data if isinstance(data, str) else data.decode("latin-1")
 
 
-def lines_of(data):
+def lines_of(data: str | bytes) -> list[str]:
     """The lines of a file. The last line feed may be missing."""
     lines = decoded(data).split("\n")
     return lines if lines[-1] else lines[:-1]
 
 
-def version_of(data):
+def version_of(data: str | bytes) -> int:
     """The version of a term file, which its first line tells."""
     return 2 if decoded(data).split("\n", 1)[0] == HEAD else 1
 
@@ -91,23 +105,24 @@ def version_of(data):
 class Nodes:
     """The nodes of a file of version 2 so far: trees, numbered from 1."""
 
-    def __init__(self):
-        self.trees, self.known, self.by_number = Trees(), set(), []
+    def __init__(self) -> None:
+        self.trees, self.known = Trees(), set[int]()
+        self.by_number: list[Tree] = []
 
-    def numbered(self, number):
+    def numbered(self, number: str) -> Tree:
         """The tree of a node."""
         if not 1 <= int(number) <= len(self.by_number):
             raise Malformed
         return self.by_number[int(number) - 1]
 
-    def formula(self, number):
+    def formula(self, number: str) -> Tree:
         """The formula of a node."""
         tree = self.numbered(number)
         if tree.sort != FORMULA:
             raise Malformed
         return tree
 
-    def read(self, word, rest):
+    def read(self, word: str, rest: str) -> Tree:
         """The tree of a node line, of which this is the word and what stands behind it."""
         row, detail = ROWS.get(word), ""
         if row is None:
@@ -127,23 +142,25 @@ class Nodes:
             raise Malformed
         return tree
 
-    def add(self, tree):
+    def add(self, tree: Tree) -> None:
         """Makes a tree the next node."""
         self.known.add(id(tree))
         self.by_number.append(tree)
 
 
-def sides_by_nodes(nodes, rest):
+def sides_by_nodes(nodes: Nodes, rest: str) -> Sides:
     """The trees of a sequent by its nodes."""
     found = SIDES.fullmatch(rest)
     if found is None:
         raise Malformed
-    return tuple([nodes.formula(number) for number in side.split()] for side in found.groups())
+    left, right = ([nodes.formula(number) for number in side.split()] for side in found.groups())
+    return left, right
 
 
-def pairs_by_nodes(nodes, rest):
+def pairs_by_nodes(nodes: Nodes, rest: str) -> Pairs:
     """The pairs of a substitution by their nodes."""
-    pairs, at = [], 0
+    pairs: Pairs = []
+    at = 0
     while at < len(rest):
         at += bool(pairs)
         found = PAIR.match(rest, at)
@@ -157,37 +174,37 @@ def pairs_by_nodes(nodes, rest):
     return pairs
 
 
-def node_of_cut(nodes, rest):
+def node_of_cut(nodes: Nodes, rest: str) -> Tree:
     """The formula of a cut by its node."""
     if not re.fullmatch(f"#{NUMBER}", rest):
         raise Malformed
     return nodes.formula(rest[1:])
 
 
-def step_of(number, place, word, rest, sides, pairs, formula):
-    """The step of a line, by three readers of its trees."""
+def step_of(number: int, place: int, word: str, rest: str, readers: Readers) -> Step:
+    """The step of a line."""
     if word in ("start", "leaf"):
-        return Step(number, place, word, "", sides(rest))
+        return Step(number, place, word, "", sides=readers.sides(rest))
     if word == "subst":
         found = SUBST.fullmatch(rest)
         if found is None:
             raise Malformed
-        return Step(number, place, word, found[1], pairs(found[2]))
+        return Step(number, place, word, found[1], pairs=readers.pairs(found[2]))
     if word == "apply":
         found = CUT.fullmatch(rest)
         if found:
-            return Step(number, place, word, found[1], formula(found[2]))
+            return Step(number, place, word, found[1], formula=readers.formula(found[2]))
     pattern = PLAIN_RULE if word == "apply" else PLAIN.get(word)
     if pattern is None or not pattern.fullmatch(rest):
         raise Malformed
     return Step(number, place, word, rest)
 
 
-def read_version_2(lines):
+def read_version_2(lines: Sequence[str]) -> Term:
     """The term of these lines, of which the first is the head."""
-    nodes, steps = Nodes(), []
+    nodes, steps = Nodes(), list[Step]()
 
-    def take(place, line):
+    def take(place: int, line: str) -> bool:
         """Takes a line; whether it ends the term."""
         if line == END:
             if not steps:
@@ -203,8 +220,8 @@ def read_version_2(lines):
         found = STEP_LINE.fullmatch(line)
         if found is None:
             raise Malformed
-        readers = (lambda rest: sides_by_nodes(nodes, rest), lambda rest: pairs_by_nodes(nodes, rest), lambda rest: node_of_cut(nodes, rest))
-        step = step_of(int(found[1]), place, found[2], found[3], *readers)
+        readers = Readers(lambda rest: sides_by_nodes(nodes, rest), lambda rest: pairs_by_nodes(nodes, rest), lambda rest: node_of_cut(nodes, rest))
+        step = step_of(int(found[1]), place, found[2], found[3], readers)
         if step.number != len(steps) + 1:
             raise Wrong(place, "WrongNumber")
         steps.append(step)
@@ -224,10 +241,10 @@ def read_version_2(lines):
 
 # Reading version 1
 
-def read_version_1(lines):
+def read_version_1(lines: Sequence[str]) -> Term:
     """The term of these lines, each with the texts of its trees."""
-    trees, steps = Trees(), []
-    readers = (lambda rest: texts.sequent(rest, trees), lambda rest: texts.pairs(rest, trees), lambda rest: texts.formula(rest, trees))
+    trees, steps = Trees(), list[Step]()
+    readers = Readers(lambda rest: reader.sequent(rest, trees), lambda rest: reader.pairs(rest, trees), lambda rest: reader.formula(rest, trees))
     for place, line in enumerate(lines, 1):
         if line == END and steps:
             if place < len(lines):
@@ -237,8 +254,8 @@ def read_version_1(lines):
         try:
             if found is None:
                 raise Malformed
-            step = step_of(int(found[1]), place, found[2], found[3], *readers)
-        except (Malformed, texts.Wrong):
+            step = step_of(int(found[1]), place, found[2], found[3], readers)
+        except (Malformed, reader.Wrong):
             raise Wrong(place, "Malformed") from None
         if step.number != place:
             raise Wrong(place, "WrongNumber")
@@ -246,7 +263,7 @@ def read_version_1(lines):
     raise Wrong(len(lines) + 1, "NoEnd")
 
 
-def read(data):
+def read(data: str | bytes) -> Term:
     """The term of a file of either version. Refused at its first wrong line."""
     lines = lines_of(data)
     return read_version_2(lines) if version_of(data) == 2 else read_version_1(lines)
@@ -254,38 +271,38 @@ def read(data):
 
 # Writing
 
-def line_in_full(step):
+def line_in_full(step: Step) -> str:
     """The line of a step in version 1, with canonical texts."""
-    if step.word in ("start", "leaf"):
-        return f"{step.number} {step.word} {sequent_text(*step.trees)}"
-    if step.word == "subst":
-        return f"{step.number} subst {step.rest} {','.join(pair_text(*pair) for pair in step.trees)}"
-    if step.trees is not None:
-        return f"{step.number} apply {step.rest}{text(step.trees)})"
+    if step.sides is not None:
+        return f"{step.number} {step.word} {sequent_text(*step.sides)}"
+    if step.pairs is not None:
+        return f"{step.number} subst {step.rest} {','.join(pair_text(*pair) for pair in step.pairs)}"
+    if step.formula is not None:
+        return f"{step.number} apply {step.rest}{text(step.formula)})"
     return f"{step.number} {step.word} {step.rest}"
 
 
-def in_version_1(term):
+def in_version_1(term: Term) -> str:
     """The canonical file of version 1 of these steps."""
     return "".join(f"{line_in_full(step)}\n" for step in term.steps) + f"{END}\n"
 
 
-def trees_in(step):
+def trees_in(step: Step) -> list[Tree]:
     """The trees of a step, in the order in which they are written."""
-    if step.word in ("start", "leaf"):
-        return [*step.trees[0], *step.trees[1]]
-    if step.word == "subst":
-        return [tree for _, tree in step.trees]
-    return [] if step.trees is None else [step.trees]
+    if step.sides is not None:
+        return [*step.sides[0], *step.sides[1]]
+    if step.pairs is not None:
+        return [tree for _, tree in step.pairs]
+    return [] if step.formula is None else [step.formula]
 
 
 class Numbering:
     """Numbers the nodes of a file of version 2 as they are needed, kids before parents and left before right."""
 
-    def __init__(self):
-        self.numbers, self.lines = {}, []
+    def __init__(self) -> None:
+        self.numbers, self.lines = dict[int, int](), list[str]()
 
-    def add(self, tree):
+    def add(self, tree: Tree) -> None:
         """Gives each part of a tree that has none yet a node."""
         waiting = [tree]
         while waiting:
@@ -301,23 +318,23 @@ class Numbering:
                 kids = "".join(f" {self.numbers[id(kid)]}" for kid in here.kids)
                 self.lines.append(f"node {len(self.numbers)} {here.word}{detail}{kids}")
 
-    def of(self, trees):
+    def of(self, trees: Sequence[Tree]) -> list[str]:
         """The numbers of these trees."""
         return [str(self.numbers[id(tree)]) for tree in trees]
 
-    def line(self, step):
+    def line(self, step: Step) -> str:
         """The line of a step, whose trees have nodes."""
-        if step.word in ("start", "leaf"):
-            return f"{step.number} {step.word} {' '.join([*self.of(step.trees[0]), '==>', *self.of(step.trees[1])])}"
-        if step.word == "subst":
-            pairs = ",".join(f"{symbol}~>{number}" for (symbol, _), number in zip(step.trees, self.of(trees_in(step))))
+        if step.sides is not None:
+            return f"{step.number} {step.word} {' '.join([*self.of(step.sides[0]), '==>', *self.of(step.sides[1])])}"
+        if step.pairs is not None:
+            pairs = ",".join(f"{symbol}~>{number}" for (symbol, _), number in zip(step.pairs, self.of(trees_in(step))))
             return f"{step.number} subst {step.rest} {pairs}"
-        if step.trees is not None:
-            return f"{step.number} apply {step.rest}#{self.of([step.trees])[0]})"
+        if step.formula is not None:
+            return f"{step.number} apply {step.rest}#{self.of([step.formula])[0]})"
         return f"{step.number} {step.word} {step.rest}"
 
 
-def in_version_2(term):
+def in_version_2(term: Term) -> str:
     """The canonical file of version 2 of these steps."""
     nodes, lines = Numbering(), [HEAD]
     for step in term.steps:
@@ -330,6 +347,6 @@ def in_version_2(term):
 
 # For the tools that want the lines of version 1
 
-def readable(data):
+def readable(data: str | bytes) -> str:
     """The text of a term in version 1: one of version 2 is written anew, any other is left as it is."""
     return in_version_1(read(data)) if version_of(data) == 2 else decoded(data)

@@ -5,7 +5,7 @@ of operators are those of node lines (docs/FILES.md), the texts those of docs/LA
 """
 
 import re
-from typing import NamedTuple
+from typing import NamedTuple, Sequence
 
 TERM, FORMULA, PROGRAM = "term", "formula", "program"
 MOST_NODES, MOST_DEPTH, MOST_ARGUMENTS, MOST_ITEMS, MOST_DIGITS = 65_536, 1_000, 8, 64, 38
@@ -31,7 +31,7 @@ class Row(NamedTuple):
 
     sort: str
     detail: str | None
-    kids: tuple | None
+    kids: tuple[str, ...] | None
     level: int
     first: int = 1
     later: int = 1
@@ -40,7 +40,7 @@ class Row(NamedTuple):
     closing: str = ""
 
 
-def infix(sort, kids, level, first, later, mark):
+def infix(sort: str, kids: str, level: int, first: int, later: int, mark: str) -> Row:
     """The row of an operator between its two kids."""
     return Row(sort, None, (kids, kids), level, first, later, between=mark)
 
@@ -89,7 +89,7 @@ ROWS = {
     "seq": infix(PROGRAM, PROGRAM, 2, 3, 2, ""),
     "loop": Row(PROGRAM, None, (PROGRAM,), 3, opening="{{", closing="}*"),
 }
-BRACKETS = {TERM: "()", FORMULA: "()", PROGRAM: "{}"}
+BRACKETS = {TERM: ("(", ")"), FORMULA: ("(", ")"), PROGRAM: ("{", "}")}
 
 
 class Tree:
@@ -98,25 +98,25 @@ class Tree:
 
     __slots__ = ("word", "detail", "kids", "sort", "size", "depth", "shown")
 
-    def __init__(self, word, detail, kids):
+    def __init__(self, word: str, detail: str, kids: "tuple[Tree, ...]") -> None:
         self.word, self.detail, self.kids = word, detail, kids
         self.sort = ROWS[word].sort
-        self.size = 1 + sum(kid.size for kid in kids)
-        self.depth = 1 + max((kid.depth for kid in kids), default=0)
-        self.shown = None
+        self.size: int = 1 + sum(kid.size for kid in kids)
+        self.depth: int = 1 + max((kid.depth for kid in kids), default=0)
+        self.shown: str | None = None
 
 
 class Trees:
     """The trees that were made, each of them once."""
 
-    def __init__(self):
-        self.made = {}
+    def __init__(self) -> None:
+        self.made: dict[tuple[str, str, tuple[int, ...]], Tree] = {}
 
-    def find(self, word, detail, kids):
+    def find(self, word: str, detail: str, kids: Sequence[Tree]) -> Tree | None:
         """The tree with this operator over these kids, or none where it wasn't made."""
         return self.made.get((word, detail, tuple(map(id, kids))))
 
-    def make(self, word, detail="", *kids):
+    def make(self, word: str, detail: str = "", *kids: Tree) -> Tree:
         """The tree with this operator over these kids."""
         key = word, detail, tuple(map(id, kids))
         if key not in self.made:
@@ -126,12 +126,12 @@ class Trees:
 
 # The sorts of kids
 
-def evolves(item):
+def evolves(item: str) -> bool:
     """Whether an item of a system is the equation of a variable."""
     return item.endswith("'")
 
 
-def kid_sorts(word, detail, count):
+def kid_sorts(word: str, detail: str, count: int) -> tuple[str, ...] | None:
     """The sorts that the kids of an operator must have, where there are so many; none where there may not be so many."""
     row = ROWS[word]
     if row.kids is not None:
@@ -141,7 +141,7 @@ def kid_sorts(word, detail, count):
     return (TERM,) * count if count <= MOST_ARGUMENTS else None
 
 
-def has_parts(word, detail):
+def has_parts(word: str, detail: str) -> bool:
     """Whether a detail, which has its form, keeps to the limits: of digits, of items, and of variables that are evolved once."""
     if word == "num":
         integer, _, fraction = detail.partition(".")
@@ -153,30 +153,30 @@ def has_parts(word, detail):
     return True
 
 
-def fits(word, detail, kids):
+def fits(word: str, detail: str, kids: Sequence[Tree]) -> bool:
     """Whether an operator may stand over these kids."""
     return has_parts(word, detail) and kid_sorts(word, detail, len(kids)) == tuple(kid.sort for kid in kids)
 
 
-def is_small(tree):
+def is_small(tree: Tree) -> bool:
     """Whether a tree is within the limits of nodes and of depth."""
     return tree.size <= MOST_NODES and tree.depth <= MOST_DEPTH
 
 
-def is_bare_system(tree):
+def is_bare_system(tree: Tree) -> bool:
     """Whether a tree is a system whose domain is `true`."""
     return tree.word == "system" and tree.kids[-1].word == "true"
 
 
 # Canonical texts
 
-def unit_text(detail):
+def unit_text(detail: str) -> str:
     """The text of a unit symbol: `f|y|` is `f(|y|)`, and `f` is `f(||)`."""
     name, bar, taboo = detail.partition("|")
     return f"{name}(|{taboo})" if bar else f"{name}(||)"
 
 
-def system_text(tree):
+def system_text(tree: Tree) -> str:
     """The text of a system between its braces."""
     terms = iter(tree.kids)
     parts = [f"{item}={text(next(terms))}" if evolves(item) else item for item in tree.detail.split(",")]
@@ -184,7 +184,7 @@ def system_text(tree):
     return ",".join(parts) + ("" if domain.word == "true" else f"&{text(domain)}")
 
 
-def within(tree, least):
+def within(tree: Tree, least: int) -> str:
     """The text of a kid, in brackets where it is below the least level."""
     if ROWS[tree.word].level >= least:
         return text(tree)
@@ -192,7 +192,7 @@ def within(tree, least):
     return f"{opening}{text(tree)}{closing}"
 
 
-def text(tree):
+def text(tree: Tree) -> str:
     """The canonical text of a tree."""
     if tree.shown is None:
         row = ROWS[tree.word]
@@ -205,19 +205,19 @@ def text(tree):
     return tree.shown
 
 
-def sequent_text(left, right):
+def sequent_text(left: Sequence[Tree], right: Sequence[Tree]) -> str:
     """The canonical text of a sequent."""
     return " ".join(part for part in (", ".join(map(text, left)), "==>", ", ".join(map(text, right))) if part)
 
 
-def is_formula_too(tree):
+def is_formula_too(tree: Tree) -> bool:
     """Whether the text of a term is that of a formula, too: an application, a unit function, or a `( )'` of such a term."""
     while tree.word == "diff":
         tree = tree.kids[0]
     return tree.word in ("app", "ufun")
 
 
-def pair_text(symbol, tree):
+def pair_text(symbol: str, tree: Tree) -> str:
     """The canonical text of a pair of a substitution."""
     return f"{'term ' if tree.sort == TERM and is_formula_too(tree) else ''}{symbol}~>{text(tree)}"
 
@@ -235,7 +235,7 @@ SYMBOLS = {
 SYMBOL = "|".join(f"(?:{pattern.pattern})" for pattern in SYMBOLS.values())
 
 
-def may_replace(symbol, tree):
+def may_replace(symbol: str, tree: Tree) -> bool:
     """Whether a tree may stand behind a symbol in a pair."""
     kind = next(kind for kind, pattern in SYMBOLS.items() if pattern.fullmatch(symbol))
     if kind == "ode":

@@ -12,15 +12,16 @@ fail stands a line of its own, which would stay if it didn't. This strategy is r
 words are right. Where it doesn't, another sharing is tried, and at last nothing is said: all lines have none.
 """
 
+import argparse
 import re
 import tempfile
 from pathlib import Path
-from typing import NamedTuple
+from typing import Collection, NamedTuple
 
-from dlkt import strategies as strategytext
+from dlkt import strategies
 from dlkt.calculus import AXIOMS, CONNECTIVES, DERIVES, LIBRARY, PREMISES, STEPS
-from dlkt.program import Refused, answer, complaint_of, has_report, position, program_of, read_bytes, refusal_in
-from dlkt.strategies import Argument, Atom, Branch, Choice, Repeat, Sequence
+from dlkt.program import Answer, Name, Refused, answer, complaint_of, has_report, position, program_of, read_bytes, refusal_in
+from dlkt.strategies import Argument, Atom, Branch, Choice, Part, Repeat, Sequence
 from dlkt.terms import readable
 
 # A line that changes nothing of a goal but an empty one. It would show that what stands behind it didn't fail.
@@ -42,6 +43,13 @@ class Run(NamedTuple):
     goal: int
 
 
+# What a part of a strategy made: how many goals are left, and the text of what was done.
+Done = tuple[int, str]
+# A line of a term: its word, and what stands behind.
+Line = tuple[str, str]
+Arguments = tuple[Argument, ...]
+
+
 class Mismatch(Exception):
     """The lines from here on aren't those of this part."""
 
@@ -49,13 +57,13 @@ class Mismatch(Exception):
 class Sharing:
     """Shares the lines of a term out among the words of a strategy. `at` is how many lines have been given away."""
 
-    def __init__(self, text, lines, refuted):
+    def __init__(self, text: str, lines: list[Line], refuted: set[tuple[int, int]]) -> None:
         self.text, self.lines, self.refuted = text, lines, refuted
-        self.at, self.runs = 1, []
+        self.at, self.runs = 1, list[Run]()
 
     # Strategies. Each answers how many goals are left, and the text of what was done.
 
-    def on_one(self, node, goal):
+    def on_one(self, node: Part, goal: int) -> Done:
         """A strategy on one goal."""
         if isinstance(node, Atom):
             return self.word(node, goal)
@@ -65,7 +73,7 @@ class Sharing:
             return self.repeat(node, goal)
         return self.sequence(node, goal)
 
-    def attempt(self, node, goal):
+    def attempt(self, node: Part, goal: int) -> Done | None:
         """The same, or none where the lines aren't its own; then none of them is given away."""
         at, known = self.at, len(self.runs)
         try:
@@ -75,7 +83,7 @@ class Sharing:
             del self.runs[known:]
             return None
 
-    def sequence(self, node, goal):
+    def sequence(self, node: Sequence | Branch, goal: int) -> Done:
         """One part after another."""
         goals, done = 1, []
         for part in node.parts:
@@ -87,7 +95,7 @@ class Sharing:
                 done.append(text)
         return goals, "; ".join(done) or "nil"
 
-    def each(self, parts, goal, goals):
+    def each(self, parts: Collection[Part], goal: int, goals: int) -> Done:
         """A part for each goal."""
         if len(parts) != goals:
             raise Mismatch
@@ -98,9 +106,9 @@ class Sharing:
             texts.append(text)
         return left, side_by_side(texts)
 
-    def choice(self, node, goal):
+    def choice(self, node: Choice, goal: int) -> Done:
         """The first part whose lines stand here, behind those before it."""
-        failed = []
+        failed: list[str] = []
         for part in node.parts:
             done = self.attempt(part, goal)
             if done:
@@ -109,11 +117,11 @@ class Sharing:
             failed.append(f"({MARK}; ({self.source(part)}))")
         raise Mismatch
 
-    def repeat(self, node, goal):
+    def repeat(self, node: Repeat, goal: int) -> Done:
         """The body, as often as its lines stand here."""
         return self.turns(node.body, node.times, goal)
 
-    def turns(self, body, times, goal):
+    def turns(self, body: Part, times: int, goal: int) -> Done:
         """So many turns of a body. While there is one goal the texts stand one behind another."""
         done = []
         while times > 0:
@@ -132,7 +140,7 @@ class Sharing:
                 return left, "; ".join([*done, text] if text else done)
         return 1, "; ".join(done) or "nil"
 
-    def all_turns(self, body, times, goal, goals):
+    def all_turns(self, body: Part, times: int, goal: int, goals: int) -> Done:
         """So many turns on each of these goals."""
         left, texts = 0, []
         for _ in range(goals):
@@ -141,23 +149,23 @@ class Sharing:
             texts.append(text)
         return left, side_by_side(texts)
 
-    def source(self, node):
+    def source(self, node: Part) -> str:
         """The text of a part as it is written."""
         return self.text[node.begin : node.end]
 
     # Words
 
-    def word(self, atom, goal):
+    def word(self, atom: Atom, goal: int) -> Done:
         """A word of the strategy, which is given its lines."""
         first = self.at + 1
         if (first, atom.begin) in self.refuted:
             raise Mismatch
         left = self.made(atom, goal)
         if self.at >= first:
-            self.runs.append(Run(first, self.at, atom.begin, strategytext.line_of(self.text, atom), goal))
+            self.runs.append(Run(first, self.at, atom.begin, strategies.line_of(self.text, atom), goal))
         return left, f"/*{first}*/{self.source(atom)}"
 
-    def made(self, atom, goal):
+    def made(self, atom: Atom, goal: int) -> int:
         """How many goals a word leaves, whose lines are passed over."""
         name, arguments = atom.name, atom.arguments
         if name == "nil":
@@ -180,7 +188,7 @@ class Sharing:
             return self.library(name, arguments, goal)
         raise Mismatch
 
-    def need(self, word, rest=""):
+    def need(self, word: str, rest: str = "") -> None:
         """Passes over a line that begins so."""
         if self.at >= len(self.lines):
             raise Mismatch
@@ -189,7 +197,7 @@ class Sharing:
             raise Mismatch
         self.at += 1
 
-    def rule(self, name, arguments, goal):
+    def rule(self, name: str, arguments: Arguments, goal: int) -> int:
         """A rule: one line, at the places that are given."""
         self.need("apply", f"{self.at} {goal} {name}(")
         places = [it.text.lstrip("-") for it in arguments if it.kind == "place"]
@@ -197,7 +205,7 @@ class Sharing:
             raise Mismatch
         return PREMISES[name]
 
-    def use(self, axiom, place, back, goal):
+    def use(self, axiom: str, place: Argument, back: bool, goal: int) -> int:
         """A use of an axiom: its instance, and the lines of its form."""
         form, main = AXIOMS.get(axiom), self.at
         if form is None or place.kind == "name":
@@ -222,7 +230,7 @@ class Sharing:
         self.need("merge")
         return {"C": 2, "F": 0}.get(form, 1)
 
-    def instance(self, axiom):
+    def instance(self, axiom: str) -> None:
         """The axiom, with its names and its replacements."""
         self.need("axiom", axiom)
         while self.at < len(self.lines) and self.lines[self.at][0] == "rename":
@@ -230,12 +238,12 @@ class Sharing:
         if self.at < len(self.lines) and self.lines[self.at][0] == "subst":
             self.at += 1
 
-    def all_of(self, words):
+    def all_of(self, words: str) -> None:
         """Passes over lines that begin with these words."""
         for word in words.split():
             self.need(word)
 
-    def derive(self, place, goal):
+    def derive(self, place: Argument, goal: int) -> int:
         """The uses of axioms that work out a `( )'`: each leaves as many as its operator has sides."""
         left = 1
         while left:
@@ -246,7 +254,7 @@ class Sharing:
             left += DERIVES[axiom] - 1
         return 1
 
-    def generalized(self, goal):
+    def generalized(self, goal: int) -> int:
         """`G`: four lines."""
         main = self.at
         self.need("rule", "G")
@@ -255,7 +263,7 @@ class Sharing:
         self.need("merge")
         return 1
 
-    def cut_box(self, goal):
+    def cut_box(self, goal: int) -> int:
         """`boxCut`: ten lines."""
         main = self.at
         self.need("axiom", "K")
@@ -266,9 +274,9 @@ class Sharing:
         self.all_of("apply apply merge merge apply")
         return 2
 
-    def library(self, name, arguments, goal):
+    def library(self, name: str, arguments: Arguments, goal: int) -> int:
         """A name of the library: the strategy for which it stands."""
-        place = arguments[-1] if arguments else None
+        place = arguments[-1] if arguments else Argument("place", "1", 0)
         parts = expansion(name, place)
         known = len(self.runs)
         left, _ = self.on_one(parts, goal)
@@ -276,17 +284,17 @@ class Sharing:
         return left
 
 
-def made_up(name, *arguments):
+def made_up(name: str, *arguments: Argument) -> Atom:
     """A word that stands in no text."""
     return Atom(0, 0, name, arguments)
 
 
-def used(axiom, place):
+def used(axiom: str, place: Argument) -> Atom:
     """`useAt(axiom,place)`, of which only the shape matters."""
     return made_up("useAt", Argument("name", axiom, 0), place)
 
 
-def expansion(name, place):
+def expansion(name: str, place: Argument) -> Part:
     """What a name of the library stands for, as docs/STRATEGIES.md says it."""
     first = made_up("implyR", Argument("place", "1", 0))
     if name == "prop":
@@ -309,7 +317,7 @@ def expansion(name, place):
     return Sequence(0, 0, (made_up("boxCut", place), Branch(0, 0, (cut, made_up("nil")))))
 
 
-def side_by_side(texts):
+def side_by_side(texts: list[str]) -> str:
     """The strategy that does each of these on a goal of its own."""
     if not texts or all(text == "nil" for text in texts):
         return ""
@@ -320,7 +328,7 @@ def side_by_side(texts):
     return f"<({', '.join(texts)})"
 
 
-def made_by(program, model, text):
+def made_by(program: str, model: Name, text: str) -> tuple[str | None, Answer]:
     """The term that a strategy of this text makes of a model, as one of version 1, or none; and the program's answer."""
     with tempfile.TemporaryDirectory() as folder:
         strategy, term = Path(folder) / "strategy", Path(folder) / "term"
@@ -329,13 +337,13 @@ def made_by(program, model, text):
         return (readable(term.read_bytes()) if has_report(said) else None), said
 
 
-def lines_of(term):
+def lines_of(term: str) -> list[Line]:
     """The lines of a term of version 1 before its end: the word and the rest of each."""
     found = [LINE.fullmatch(line) for line in term.split("\n")]
     return [(line[1], line[2]) for line in found if line]
 
 
-def shared(text, tree, lines, refuted):
+def shared(text: str, tree: Part, lines: list[Line], refuted: set[tuple[int, int]]) -> tuple[list[Run], str] | None:
     """The runs of words and the strategy of what was done; none where the lines can't be shared out."""
     sharing = Sharing(text, lines, refuted)
     try:
@@ -345,7 +353,7 @@ def shared(text, tree, lines, refuted):
     return (sharing.runs, done) if sharing.at == len(lines) else None
 
 
-def first_difference(one, other):
+def first_difference(one: str, other: str) -> int:
     """The number of the first line in which two terms differ."""
     for number, (here, there) in enumerate(zip(one.split("\n"), other.split("\n")), 1):
         if here != there:
@@ -353,20 +361,20 @@ def first_difference(one, other):
     return 0
 
 
-def failed_at(done, said):
+def failed_at(done: str, said: Answer) -> int:
     """The first line of the word that fails where what was done is done again."""
     refusal = refusal_in(said.text)
     before = FIRST_LINE.findall(done[: refusal.byte]) if refusal and refusal.what == "fails" else []
     return int(before[-1]) if before else 0
 
 
-def runs_in(program, model, text, term):
+def runs_in(program: str, model: Name, text: str, term: str) -> list[Run] | None:
     """The runs of words that made a term, in order, or none where that can't be said."""
     try:
-        tree = strategytext.read(text)
-    except strategytext.Wrong:
+        tree = strategies.read(text)
+    except strategies.Wrong:
         return None
-    refuted, lines = set(), lines_of(term)
+    refuted, lines = set[tuple[int, int]](), lines_of(term)
     for _ in range(TRIES):
         found = shared(text, tree, lines, refuted)
         if found is None:
@@ -383,7 +391,7 @@ def runs_in(program, model, text, term):
     return None
 
 
-def word_runs(model, strategy, program=None, term=None):
+def word_runs(model: Name, strategy: Name, program: str | None = None, term: Name | None = None) -> list[Run] | None:
     """The runs of the words of a strategy with the lines that they made, in order; none where that can't be said. A term that is given is
     looked at in place of the one that the strategy makes: none comes where they differ."""
     program = program_of(program)
@@ -396,15 +404,15 @@ def word_runs(model, strategy, program=None, term=None):
     return runs_in(program, model, text, made)
 
 
-def words_of_lines(runs, count):
+def words_of_lines(runs: list[Run] | None, count: int) -> list[tuple[int, str] | None]:
     """For each of so many lines the byte and the text of the word that made it, or none."""
-    words = [None] * count
+    words: list[tuple[int, str] | None] = [None] * count
     for run in runs or []:
         words[run.first - 1 : run.last] = [(run.byte, run.word)] * (run.last - run.first + 1)
     return words
 
 
-def line_words(model, strategy, program=None, term=None):
+def line_words(model: Name, strategy: Name, program: str | None = None, term: Name | None = None) -> list[tuple[int, str] | None]:
     """For each line of the term that a strategy makes, from the first on, the byte and the text of the word that made it, or none: of the
     first line, which states the model, and of all lines where it can't be said. The term's last line, `done`, isn't counted."""
     program = program_of(program)
@@ -421,14 +429,14 @@ HELP = "says of each line of a term which word of the strategy made it"
 EXAMPLE = "dlkt words examples/car/model examples/car/strategy"
 
 
-def add_words(parser):
+def add_words(parser: argparse.ArgumentParser) -> None:
     """The words of the command."""
     parser.add_argument("model")
     parser.add_argument("strategy")
     parser.add_argument("--dlk", metavar="PROGRAM", help="the program (that of this checkout)")
 
 
-def run(given):
+def run(given: argparse.Namespace) -> int:
     """Prints the words with their lines."""
     runs = word_runs(given.model, given.strategy, given.dlk)
     if runs is None:
