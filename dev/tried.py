@@ -26,7 +26,7 @@ class Row(NamedTuple):
     """A row of the file."""
 
     crate: str
-    count: int
+    bodies: int
     day: str
     sum: str
 
@@ -103,7 +103,7 @@ def main() -> int:
     if wrong:
         print(f"tried.py: try them by: python3 dev/edits.py --together {' '.join(it.partition(':')[0] for it in wrong)}")
     else:
-        print(f"the wrong bodies of {len(crates_with_bodies())} crates, {sum(it.count for it in rows().values())} in all, were tried as these are now")
+        print(f"the wrong bodies of {len(crates_with_bodies())} crates, {sum(it.bodies for it in rows().values())} in all, were tried as these are now")
     return 1 if wrong else 0
 
 
