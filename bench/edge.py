@@ -26,7 +26,7 @@ from common import PROGRAM
 
 TOP = pathlib.Path(__file__).resolve().parent.parent
 sys.path.append(str(TOP / "dev"))
-import consistent
+import consistent  # noqa: E402  (behind the path)
 
 DLK = os.path.abspath(os.environ.get("DLK", PROGRAM))
 SECONDS = 600

@@ -84,7 +84,8 @@ def main():
         return
     for folder in [pathlib.Path(it).resolve() for it in sys.argv[1:]] or longest():
         edit, whole = edits(folder), verified(folder)
-        print(f"{folder.name}: {len(words_of(folder))} words; an edit of the last ones {1000 * edit:.0f} ms, dlkt verify {1000 * whole:.0f} ms, ratio {edit / whole:.2f}")
+        count, told = len(words_of(folder)), f"dlkt verify {1000 * whole:.0f} ms, ratio {edit / whole:.2f}"
+        print(f"{folder.name}: {count} words; an edit of the last ones {1000 * edit:.0f} ms, {told}")
 
 
 if __name__ == "__main__":

@@ -88,7 +88,8 @@ def main():
         long_rates = measured_all(programs, "again and again", [(model, repeated(term)) for model, term in pairs])
         measured_proving(programs[-1], pairs, pathlib.Path(name))
     if len(programs) > 1:
-        print(f"the last program is {rates[programs[-1]] / rates[programs[0]]:.2f} and {long_rates[programs[-1]] / long_rates[programs[0]]:.2f} times as fast as the first")
+        once, again = (of[programs[-1]] / of[programs[0]] for of in (rates, long_rates))
+        print(f"the last program is {once:.2f} and {again:.2f} times as fast as the first")
     if not SET_MM.exists():
         print("metamath: set.mm is not there")
         return

@@ -4,8 +4,9 @@
     python3 dev/tried.py     exits 1 where a crate with wrong bodies changed since they were last tried
 
 A row of the file has a crate, how many wrong bodies it has, the day on which all of them were refused, and a sum of the crate's files then: those of
-`src` without tests, `specs` and `proofs`, and the wrong bodies of `must-fail` and `edits`, whichever of the two folders one stands in. `dev/edits.py NAME` writes
-the row of a crate when it has tried all of them and each was refused, and nothing else writes it. What a crate stands on has rows of its own.
+`src` without tests, `specs` and `proofs`, and the wrong bodies of `must-fail` and `edits`, whichever of the two folders one stands in.
+`dev/edits.py NAME` writes the row of a crate when it has tried all of them and each was refused, and nothing else writes it. What a crate stands on
+has rows of its own.
 """
 
 import argparse

@@ -2,7 +2,7 @@
 
 import unittest
 
-import helping
+import helping  # noqa: F401  (the path to the package)
 from dlkt import hints as linting
 from dlkt import strategies as strategytext
 from dlkt import words

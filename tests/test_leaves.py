@@ -3,7 +3,7 @@
 import json
 import unittest
 
-import helping
+import helping  # noqa: F401  (the path to the package)
 from dlkt.commands import leaves
 from dlkt import program as proving
 from helping import CLOSES_INCREMENT, Case, INCREMENT, PROGRAM, needs_program

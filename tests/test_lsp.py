@@ -77,7 +77,9 @@ class Client:
 
     def marks(self, uri, is_it=lambda marks: True):
         """The next diagnostics of a text that are as wanted."""
-        found = self.wait(lambda it: it.get("method") == "textDocument/publishDiagnostics" and it["params"]["uri"] == uri and is_it(it["params"]["diagnostics"]))
+        found = self.wait(
+            lambda it: it.get("method") == "textDocument/publishDiagnostics" and it["params"]["uri"] == uri and is_it(it["params"]["diagnostics"])
+        )
         return found["params"]["diagnostics"]
 
     def close(self):

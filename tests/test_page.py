@@ -8,7 +8,7 @@ import unittest
 from html.parser import HTMLParser
 from pathlib import Path
 
-import helping
+import helping  # noqa: F401  (the path to the package)
 from dlkt.commands import page
 from dlkt.commands import tree as prooftree
 from dlkt import typeset

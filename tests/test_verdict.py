@@ -9,7 +9,7 @@ import time
 import unittest
 
 import helping
-from helping import BRAKE, CHOICE, CLOSES_BRAKE, CLOSES_CHOICE, CLOSES_INCREMENT, Case, INCREMENT, PROGRAM, needs_program
+from helping import BRAKE, CHOICE, CLOSES_BRAKE, CLOSES_CHOICE, CLOSES_INCREMENT, Case, INCREMENT, needs_program
 from dlkt.terms import readable
 
 
