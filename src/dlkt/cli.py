@@ -25,16 +25,16 @@ class Command(NamedTuple):
 COMMANDS = {
     "verify": Command("dlkt.commands.verify", 4),
     "auto": Command("dlkt.commands.auto"),
+    "refute": Command("dlkt.commands.refute"),
+    "import": Command("dlkt.commands.import_"),
     "batch": Command("dlkt.commands.batch"),
     "leaves": Command("dlkt.commands.leaves"),
     "page": Command("dlkt.commands.page"),
-    "print": Command("dlkt.commands.print"),
     "tree": Command("dlkt.commands.tree"),
     "prompt": Command("dlkt.commands.prompt"),
+    "print": Command("dlkt.commands.print"),
     "readable": Command("dlkt.commands.readable"),
-    "refute": Command("dlkt.commands.refute"),
     "words": Command("dlkt.words"),
-    "import": Command("dlkt.commands.import_"),
     "lsp": Command("dlkt.commands.lsp"),
 }
 
@@ -61,9 +61,8 @@ def main(words: Sequence[str]) -> int:
     """Does what the words say, and gives the exit status."""
     sys.setrecursionlimit(MOST_LEVELS)
     parser, commands = words_of_all()
-    # the command that is named alone is imported, since all together take half a second
-    for name in [words[0]] if words and words[0] in COMMANDS else COMMANDS:
-        command = COMMANDS[name]
+    named = {words[0]: COMMANDS[words[0]]} if words and words[0] in COMMANDS else COMMANDS
+    for name, command in named.items():
         module = importlib.import_module(command.module)
         one = commands.add_parser(
             name, help=module.HELP, description=module.HELP, epilog=f"Example: {module.EXAMPLE}",
@@ -72,5 +71,7 @@ def main(words: Sequence[str]) -> int:
         one.refused = command.refused
         module.add_words(one)
         one.set_defaults(run=module.run, refused=command.refused)
+    if named is not COMMANDS:
+        parser.refused = named[words[0]].refused
     options = parser.parse_args(words)
     return ended(f"dlkt {options.command}", options.run, options, options.refused)
