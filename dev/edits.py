@@ -25,7 +25,8 @@ Behind the run a line an edit says what came of it:
 
 with the place, and the clause or other condition that is not proved there. `for a limit` stands where the prover gave up without a verdict,
 and `bad` where the edit can't be applied or read, so that it says nothing. Last come the sums by crate; with --table as rows of a table.
-The exit status is 0 where each edit is refused, 1 where one isn't, and 2 where they could not be tried.
+The exit status is 0 where each edit is refused, 1 where one isn't, and 2 where they could not be tried. Of each crate whose wrong bodies were all
+refused a row is written to dev/tried.txt: by that `.ci/run` sees which crates changed since (`dev/tried.py`).
 
 With --together wrong bodies of different functions stand in a crate at the same time, and one check tries all of them: `dev/rounds.py` says
 why that is the same. It takes a fifth of the time, or less, and is the way to try the edits of a crate that one works on.
@@ -68,6 +69,7 @@ from typing import NamedTuple
 
 import consistent
 import rounds
+import tried as tried_file
 
 TOP = Path(__file__).resolve().parent.parent
 FOLDERS = ("must-fail", "edits")
@@ -464,6 +466,8 @@ def main():
         if shutil.which("rt") is None:
             raise Refused("there is no rt on the path: edits are tried with the Rattle toolchain")
         room = room_of(given.room)
+        # of the files that are copied now: what changes while they are tried isn't tried
+        rows = [tried_file.row_of(TOP / "crates" / name) for name in edits] if not given.silent else []
         copy(room, edits or dict.fromkeys(starved, {}))
         for name, bodies in starved.items():
             starve(room, name, bodies)
@@ -471,6 +475,7 @@ def main():
         every = tried(room, edits, max(1, given.jobs), given.together)
         print("\n".join(it.line() for it in every), flush=True)
         tell_sums(list(edits), every, given.table)
+        tried_file.put([row for row in rows if all(it.kind in KINDS[:2] for it in every if it.crate == row.crate)])
         return 0 if all(it.kind in KINDS[:2] for it in every) else 1
     except (Refused, OSError) as why:
         print(f"edits.py: {why}", file=sys.stderr)
