@@ -31,6 +31,7 @@ COMMANDS = {
     "tree": Command("dlkt.commands.tree"),
     "prompt": Command("dlkt.commands.prompt"),
     "readable": Command("dlkt.commands.readable"),
+    "refute": Command("dlkt.commands.refute"),
     "words": Command("dlkt.words"),
 }
 
