@@ -58,7 +58,8 @@ def main(words: Sequence[str]) -> int:
     """Does what the words say, and gives the exit status."""
     sys.setrecursionlimit(MOST_LEVELS)
     parser, commands = words_of_all()
-    for name, command in COMMANDS.items():
+    named = {words[0]: COMMANDS[words[0]]} if words and words[0] in COMMANDS else COMMANDS
+    for name, command in named.items():
         module = importlib.import_module(command.module)
         one = commands.add_parser(
             name, help=module.HELP, description=module.HELP, epilog=f"Example: {module.EXAMPLE}",
@@ -67,5 +68,7 @@ def main(words: Sequence[str]) -> int:
         one.refused = command.refused
         module.add_words(one)
         one.set_defaults(run=module.run, refused=command.refused)
+    if named is not COMMANDS:
+        parser.refused = named[words[0]].refused
     options = parser.parse_args(words)
     return ended(f"dlkt {options.command}", options.run, options, options.refused)
