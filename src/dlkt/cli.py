@@ -24,6 +24,7 @@ class Command(NamedTuple):
 
 COMMANDS = {
     "verify": Command("dlkt.commands.verify", 4),
+    "auto": Command("dlkt.commands.auto"),
     "batch": Command("dlkt.commands.batch"),
     "leaves": Command("dlkt.commands.leaves"),
     "page": Command("dlkt.commands.page"),
@@ -31,6 +32,7 @@ COMMANDS = {
     "tree": Command("dlkt.commands.tree"),
     "prompt": Command("dlkt.commands.prompt"),
     "readable": Command("dlkt.commands.readable"),
+    "refute": Command("dlkt.commands.refute"),
     "words": Command("dlkt.words"),
     "import": Command("dlkt.commands.import_"),
 }
