@@ -30,6 +30,7 @@ if TYPE_CHECKING:
 HELP = "reads archives of KeYmaera X to models"
 EXAMPLE = "dlkt import examples/keymaerax/cruise/archive -d /tmp/cruise"
 READ, NOT_READ = 0, 1
+LEAF_SECONDS = 20
 
 
 def add_words(parser: argparse.ArgumentParser) -> None:
@@ -40,7 +41,7 @@ def add_words(parser: argparse.ArgumentParser) -> None:
     parser.add_argument("--print", action="store_true", help="print the models, and write nothing")
     parser.add_argument("--check", action="store_true", help="compare the definitions with what dlk subst makes of them")
     parser.add_argument("--prove", action="store_true", help="prove each entry, and write its strategy")
-    parser.add_argument("--seconds", type=seconds, default=60, metavar="N", help="for each proof (60)")
+    parser.add_argument("--seconds", type=seconds, default=60, metavar="N", help="for each search (60)")
     parser.add_argument("--dlk", metavar="PROGRAM", help="the program (that of this checkout)")
 
 
@@ -136,6 +137,21 @@ class Importer:
         folders.put(folder, files, self.archive)
         print(f"{model.entry.name}: {one_line(str(folder))}: {', '.join(files)}")
         self.tell_tactics(model, tactics)
+        if self.options.prove:
+            self.prove(model, folder, files["model"], tactics)
+
+    def prove(self, model: "Model", folder: Path, text: str, tactics: list["Carried"]) -> None:
+        """Proves an entry, and puts what proves it into its folder."""
+        from dlkt.archive import folders, proving
+
+        limits = proving.Limits(self.program, self.options.seconds, LEAF_SECONDS)
+        for attempt in proving.attempts(str(folder / "model"), text, tactics, limits):
+            print(f"{model.entry.name}: {one_line(attempt.said)} [{attempt.how}, {attempt.seconds:.1f} s]", flush=True)
+            if attempt.is_verified:
+                said = folders.marked("/* ", f" of {folders.comment(Path(self.archive).name)} */", f"/* by {attempt.how} */\n{attempt.strategy}")
+                folders.put(folder, {"strategy": said}, self.archive)
+                return
+        self.status = NOT_READ
 
     def tell_tactics(self, model: "Model", tactics: list["Carried"]) -> None:
         """Says what got lost of tactics."""
