@@ -1,4 +1,4 @@
-"""Tests of tools/verdict.py on the built program, with solvers that say what the test wants."""
+"""Tests of dlkt verify on the built program, with solvers that say what the test wants."""
 
 import json
 import os
@@ -8,7 +8,6 @@ import sys
 import time
 import unittest
 
-import helping
 from helping import BRAKE, CHOICE, CLOSES_BRAKE, CLOSES_CHOICE, CLOSES_INCREMENT, Case, INCREMENT, PROGRAM, needs_program
 from dlkt.terms import readable
 
@@ -35,9 +34,23 @@ class Closed(Verdict):
         self.assertEqual(run.returncode, 0)
         self.assertEqual(
             run.stdout,
-            "closed, 15 lines\nleaf 1: x>=0 ==> x+1>=1\n    z3: valid\n    cvc5: unknown\nguarded\n"
+            "closed, 15 lines\nleaf 1: x>=0 ==> x+1>=1\n    z3: valid\nguarded\n"
             "verified: closed, guarded, 1 leaf valid. It rests on dlk, docs/SOUNDNESS.md (on paper), z3 1.2.3 (1 of 1 leaf)\n",
         )
+
+    def test_all_solvers(self):
+        self.solver("z3", "unsat")
+        self.solver("cvc5", "unknown", version="9.9")
+        run = self.on(INCREMENT, CLOSES_INCREMENT, "--all-solvers")
+        self.assertEqual((run.returncode, self.last(run)[-48:]), (0, "docs/SOUNDNESS.md (on paper), z3 1.2.3 (1 of 1 leaf)"[-48:]))
+        self.assertIn("leaf 1: x>=0 ==> x+1>=1\n    z3: valid\n    cvc5: unknown\n", run.stdout)
+
+    def test_one_that_knows_is_enough(self):
+        self.solver("z3", "unsat")
+        self.script_of_solver("cvc5", '[ "$1" = --version ] && echo 1.0 && exit\n/bin/sleep 60\n')
+        begin = time.monotonic()
+        self.assertEqual(self.on(INCREMENT, CLOSES_INCREMENT, "-j", "2").returncode, 0)
+        self.assertLess(time.monotonic() - begin, 15)
 
     def test_no_leaves_need_no_solver(self):
         run = self.on("x>=0 -> x>=0\n", "implyR(1); close")
@@ -55,7 +68,7 @@ class Closed(Verdict):
     def test_solvers_that_contradict_each_other(self):
         self.solver("z3", "unsat")
         self.solver("cvc5", "sat")
-        run = self.on(INCREMENT, CLOSES_INCREMENT)
+        run = self.on(INCREMENT, CLOSES_INCREMENT, "--all-solvers")
         self.assertEqual((run.returncode, self.last(run)), (3, "not verified: leaf 1 is unknown"))
         self.assertIn("    z3: valid\n    cvc5: false\n", run.stdout)
 
@@ -65,7 +78,7 @@ class Closed(Verdict):
         self.assertEqual((run.returncode, self.last(run)), (3, "not verified: leaf 1 is false"))
         self.assertIn("    z3: false at x=1/2\n", run.stdout)
         self.solver("cvc5", "sat", "((define-fun |v.x| () Real 0.25))")
-        self.assertIn("    z3: false at x=1/2\n    cvc5: false at x=0.25\n", self.on(INCREMENT, CLOSES_INCREMENT).stdout)
+        self.assertIn("    z3: false at x=1/2\n    cvc5: false at x=0.25\n", self.on(INCREMENT, CLOSES_INCREMENT, "--all-solvers").stdout)
 
     def test_without_a_solver(self):
         run = self.on(INCREMENT, CLOSES_INCREMENT)
@@ -87,7 +100,7 @@ class Closed(Verdict):
         run = self.on(model, "implyR(1); dI(1); <(close, derive(1.1); useAt(DEsys,1)*2; dW(1); step(1)*2; leaf)")
         self.assertEqual(run.returncode, 0)
         self.assertIn("    with ^1 for ^(2-1)\n", run.stdout)
-        self.assertIn("tools/leaves.py (exponents)", self.last(run))
+        self.assertIn("dlkt leaves (exponents)", self.last(run))
 
 
 @needs_program
@@ -166,7 +179,7 @@ class Failing(Verdict):
 @needs_program
 class Terms(Verdict):
     def test_the_term_is_put_where_it_is_wanted(self):
-        run = self.on("x>=0 -> x>=0\n", "implyR(1); close", "term")
+        run = self.on("x>=0 -> x>=0\n", "implyR(1); close", "-o", "term")
         self.assertEqual(run.returncode, 0)
         term = readable((self.folder / "term").read_bytes())
         self.assertEqual(term, "1 start ==> x>=0 -> x>=0\n2 apply 1 1 implyR(1)\n3 apply 2 1 close(1,1)\ndone\n")
@@ -174,7 +187,7 @@ class Terms(Verdict):
 
     def test_a_failure_leaves_the_term_that_is_there(self):
         self.file("term", "1 start ==> x>=0\ndone\n")
-        self.assertEqual(self.on(INCREMENT, "andR(1)", "term").returncode, 2)
+        self.assertEqual(self.on(INCREMENT, "andR(1)", "-o", "term").returncode, 2)
         self.assertEqual((self.folder / "term").read_text(), "1 start ==> x>=0\ndone\n")
 
     def test_no_input_is_written(self):
@@ -183,7 +196,7 @@ class Terms(Verdict):
         os.link(strategy, self.folder / "hard")
         (self.folder / "folder").mkdir()
         for name in ("model", "strategy", "./strategy", "folder/../strategy", "link", "hard"):
-            run = self.tool("verify", model, strategy, name)
+            run = self.tool("verify", model, strategy, "-o", name)
             self.assertEqual((run.returncode, run.stdout), (4, ""), name)
             self.assertRegex(run.stderr, r"^dlkt verify: .* is an input, the same file as .*\n$")
         self.assertEqual((self.folder / "strategy").read_text(), "implyR(1); close")
@@ -191,17 +204,17 @@ class Terms(Verdict):
 
     def test_nothing_but_a_term_is_written_over(self):
         self.file("other", "implyR(1); andR(1)\n")
-        self.assertEqual(self.on("x>=0 -> x>=0\n", "implyR(1); close", "other").returncode, 4)
+        self.assertEqual(self.on("x>=0 -> x>=0\n", "implyR(1); close", "-o", "other").returncode, 4)
         self.assertEqual((self.folder / "other").read_text(), "implyR(1); andR(1)\n")
         self.file("empty", "")
-        self.assertEqual(self.on("x>=0 -> x>=0\n", "implyR(1); close", "empty").returncode, 0)
+        self.assertEqual(self.on("x>=0 -> x>=0\n", "implyR(1); close", "-o", "empty").returncode, 0)
 
     def test_line_ends_of_windows(self):
         self.file("term", b"1 start ==> x>=0\r\ndone\r\n")
-        self.assertIn("term:1:17: hint: the term has line ends of Windows", self.on("x>=0 -> x>=0\n", "implyR(1); close", "term").stdout)
+        self.assertIn("term:1:17: hint: the term has line ends of Windows", self.on("x>=0 -> x>=0\n", "implyR(1); close", "-o", "term").stdout)
 
     def test_a_device(self):
-        self.assertEqual(self.on("x>=0 -> x>=0\n", "implyR(1); close", "/dev/null").returncode, 0)
+        self.assertEqual(self.on("x>=0 -> x>=0\n", "implyR(1); close", "-o", "/dev/null").returncode, 0)
         self.assertFalse(os.path.isfile("/dev/null"))
 
 
@@ -210,13 +223,13 @@ class Errors(Verdict):
     def test_one_line_each(self):
         model, strategy = self.file("model", INCREMENT), self.file("strategy", CLOSES_INCREMENT)
         (self.folder / "folder").mkdir()
-        for words in (("nope", strategy), (model, "nope"), ("folder", strategy), (model, "folder"), (model, strategy, "folder"), (model, strategy, "nope/term"),
+        for words in (("nope", strategy), (model, "nope"), ("folder", strategy), (model, "folder"), (model, strategy, "-o", "folder"), (model, strategy, "-o", "nope/term"), (model,),
                       ("-", strategy), (model, strategy, "--dlk", "/nope"), (model, strategy, "--dlk", model)):
             run = self.tool("verify", *words)
             self.assertEqual((run.returncode, run.stdout, run.stderr.count("\n")), (4, "", 1), words)
 
     def test_wrong_words(self):
-        for words in ((), ("model",), ("a", "b", "c", "d"), ("a", "b", "--seconds", "0"), ("a", "b", "--seconds", "x"), ("a", "b", "--nope")):
+        for words in ((), ("a", "b", "c"), ("a", "b", "--seconds", "0"), ("a", "b", "--seconds", "x"), ("a", "b", "-j", "0"), ("a", "b", "--nope")):
             self.assertEqual(self.tool("verify", *words).returncode, 4)
 
     @unittest.skipIf(os.geteuid() == 0, "root may read and write everything")
@@ -264,7 +277,7 @@ class Errors(Verdict):
 
     def test_a_term_that_is_a_link_to_itself(self):
         os.symlink("loop", self.folder / "loop")
-        self.assertEqual(self.on(INCREMENT, CLOSES_INCREMENT, "loop").returncode, 4)
+        self.assertEqual(self.on(INCREMENT, CLOSES_INCREMENT, "-o", "loop").returncode, 4)
 
     def test_names_that_are_no_text(self):
         model = self.file("model", INCREMENT)
@@ -276,7 +289,7 @@ class Errors(Verdict):
         self.assertFalse(any(line.startswith("verified") for line in run.stdout.split("\n")))
 
     def test_outputs_that_cannot_be_written(self):
-        words = f"'{sys.executable}' '{helping.TOOLS}/verdict.py' '{self.file('model', 'x>=0 -> x>=0')}' '{self.file('strategy', 'implyR(1); close')}'"
+        words = f"'{sys.executable}' -m dlkt verify '{self.file('model', 'x>=0 -> x>=0')}' '{self.file('strategy', 'implyR(1); close')}'"
         for behind, status in ((">/dev/full", 4), ("--json >/dev/full", 4), (">&-", 0), (">&- 2>&-", 0)):
             run = subprocess.run(["/bin/sh", "-c", f"{words} {behind}"], env=self.environment(), capture_output=True, text=True, check=False)
             self.assertEqual(run.returncode, status, behind)

@@ -60,7 +60,7 @@ def main(words: Sequence[str]) -> int:
     """Does what the words say, and gives the exit status."""
     sys.setrecursionlimit(MOST_LEVELS)
     parser, commands = words_of_all()
-    for name, command in COMMANDS.items():
+    for name, command in COMMANDS.items() if not words or words[0] not in COMMANDS else [(words[0], COMMANDS[words[0]])]:
         module = importlib.import_module(command.module)
         one = commands.add_parser(
             name, help=module.HELP, description=module.HELP, epilog=f"Example: {module.EXAMPLE}",
