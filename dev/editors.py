@@ -10,7 +10,7 @@ grammars. The numbers of premises, the axioms and the words of strategies that d
 with these, too, and its words of nodes.
 
 The commands, each with its arguments, come from the table of their forms in crates/dlk_replies/specs/Forms.antt. They must be the same
-in README.md, in the usage that the program prints on standard error, in the man page and in the completions for bash and zsh. The exit
+in docs/FILES.md, in the usage that the program prints on standard error, in the man page and in the completions for bash and zsh. The exit
 statuses of the man page must be those of docs/FILES.md.
 """
 
@@ -253,7 +253,7 @@ def commands() -> list[tuple[str, set[Any], set[Any]]]:
     synopsis, items = man_usages()
     usage = {" ".join(words.split()) for words in re.findall(r'^ +"  dlk (.*?)  ', text_of("crates", "dlk", "src", "explain.rt"), re.M)}
     return [
-        ("README.md", wanted, {spans(row[0])[0] for row in rows(text_of("README.md"), "| Usage | What it does |")}),
+        ("docs/FILES.md", wanted, {spans(row[0])[0] for row in rows(text_of("docs", "FILES.md"), "| Usage | What it does |")}),
         ("crates/dlk/src/explain.rt", wanted, usage),
         ("synopsis of docs/dlk.1", wanted, synopsis),
         ("docs/dlk.1", wanted, items),

@@ -136,8 +136,8 @@ class Table(Batch):
 
     def test_control_c_ends_all(self):
         self.solver("z3", "unsat")
-        script, asked = self.solvers / "z3", self.folder / "asked"
-        script.write_text(script.read_text().replace("cat >/dev/null", f"echo $$ >> {asked}; exec /bin/sleep 60"))
+        asked = self.folder / "asked"
+        self.script_of_solver("z3", f"[ \"$1\" = --version ] && echo 1.0 && exit\necho $$ >> {asked}; exec /bin/sleep 60\n")
         for name in ("one", "two", "three"):
             self.proof(name, INCREMENT, CLOSES_INCREMENT)
         for number in (signal.SIGINT, signal.SIGTERM):
@@ -157,8 +157,8 @@ class Table(Batch):
 class Refusals(Batch):
     def refusal(self, *words):
         """The one line by which nothing could be looked at."""
-        run = subprocess.run([sys.executable, helping.TOOLS / "batch", "--dlk", "/bin/true", *map(str, words)],
-                             capture_output=True, text=True, check=False)
+        run = subprocess.run([sys.executable, "-m", "dlkt", "batch", "--dlk", "/bin/true", *map(str, words)],
+                             capture_output=True, text=True, check=False, env=self.environment())
         self.assertEqual((run.returncode, run.stdout, run.stderr.count("\n")), (2, "", 1))
         return run.stderr.strip()
 
@@ -167,7 +167,7 @@ class Refusals(Batch):
         self.assertEqual(self.refusal("/nowhere/at/all"), "dlkt batch: /nowhere/at/all: no such folder")
         self.assertEqual(self.refusal(self.proofs / "one" / "model"), f"dlkt batch: {self.proofs / 'one' / 'model'}: not a folder")
         self.assertIn("has a model, and a strategy or a term", self.refusal(self.solvers))
-        self.assertIn("holds no table of batch.py", self.refusal(self.proofs, "--against", self.proofs / "one" / "model"))
+        self.assertIn("holds no table of dlkt batch", self.refusal(self.proofs, "--against", self.proofs / "one" / "model"))
         self.assertIn("no such file", self.refusal(self.proofs, "--against", "/nowhere/at/all"))
         self.assertIn("isn't there", self.refusal(self.proofs, "--dlk", "/nowhere/dlk"))
 

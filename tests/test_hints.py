@@ -2,10 +2,7 @@
 
 import unittest
 
-import helping  # noqa: F401  (the path to the package)
-from dlkt import hints as linting
-from dlkt import strategies as strategytext
-from dlkt import words
+from dlkt import hints, strategies, words
 from helping import BRAKE, CLOSES_BRAKE, Case, PROGRAM, ROOT, needs_program
 
 
@@ -16,9 +13,9 @@ def said(found):
 
 class Texts(unittest.TestCase):
     def of(self, kind, model, strategy):
-        tree = strategytext.read(strategy)
-        return said({"names": lambda: linting.of_names(model.encode(), tree), "axioms": lambda: linting.of_axioms(tree),
-                     "words": lambda: linting.of_words(tree), "functions": lambda: linting.of_functions(model.encode(), tree)}[kind]())
+        tree = strategies.read(strategy)
+        return said({"names": lambda: hints.of_names(model.encode(), tree), "axioms": lambda: hints.of_axioms(tree),
+                     "words": lambda: hints.of_words(tree), "functions": lambda: hints.of_functions(model.encode(), tree)}[kind]())
 
     def test_axioms(self):
         self.assertEqual(self.of("axioms", "x>=0", "(useAt(asignb,1))*20"), [(7, "there is no axiom asignb; is assignb meant?")])
@@ -51,7 +48,7 @@ class Texts(unittest.TestCase):
     def test_names_of_quantifiers(self):
         model = "\\forall x (x>=0 -> x>=0)"
         self.assertEqual(self.of("names", model, 'cut("\\exists x (x>=0)")'), [])
-        self.assertEqual(set(linting.names_of(model).symbols), set())
+        self.assertEqual(set(hints.names_of(model).symbols), set())
 
     def test_functions(self):
         self.assertEqual(self.of("functions", "abs(x)>=0", "nil")[0][0], 0)
@@ -59,36 +56,36 @@ class Texts(unittest.TestCase):
         self.assertEqual(self.of("functions", "minimum>=0", "nil"), [])
 
     def test_files(self):
-        found = list(linting.of_files(b"\xef\xbb\xbfx>=0", b"nil", b"1 start ==> x>=0\r\ndone\r\n"))
+        found = list(hints.of_files(b"\xef\xbb\xbfx>=0", b"nil", b"1 start ==> x>=0\r\ndone\r\n"))
         self.assertEqual([(hint.file, hint.byte) for hint in found], [("model", 0), ("term", 16)])
         archive = b'ArchiveEntry "car"\nProblem\n x>=0\nEnd.\nEnd.\n'
-        self.assertEqual([hint.byte for hint in linting.of_files(archive, b"nil", None)], [0])
-        self.assertEqual(list(linting.of_files(b"/* Problem\n */ x>=0\n", b"nil", None)), [])
+        self.assertEqual([hint.byte for hint in hints.of_files(archive, b"nil", None)], [0])
+        self.assertEqual(list(hints.of_files(b"/* Problem\n */ x>=0\n", b"nil", None)), [])
 
     def test_what_is_needed_constant(self):
         pairs = "{c}~>{x'=v,v'=-B()},q(||)~>true&a'=0,p(||)~>x+a<=M+B()"
-        self.assertEqual(linting.needed_constant(pairs), ["M"])
+        self.assertEqual(hints.needed_constant(pairs), ["M"])
 
 
 @needs_program
 class Models(Case):
     def test_variables_that_no_program_changes(self):
         model = self.file("model", BRAKE.replace("M()", "M"))
-        tree = strategytext.read(CLOSES_BRAKE)
-        found = said(linting.of_constants(PROGRAM, model, BRAKE.replace("M()", "M").encode(), tree))
+        tree = strategies.read(CLOSES_BRAKE)
+        found = said(hints.of_constants(PROGRAM, model, BRAKE.replace("M()", "M").encode(), tree))
         self.assertEqual([byte for byte, _ in found], [5])
-        self.assertEqual(said(linting.of_constants(PROGRAM, model, BRAKE.encode(), strategytext.read("implyR(1)"))), [])
+        self.assertEqual(said(hints.of_constants(PROGRAM, model, BRAKE.encode(), strategies.read("implyR(1)"))), [])
 
     def test_invariants_of_a_term(self):
         model, strategy = self.file("model", BRAKE.replace("M()", "M")), self.file("strategy", CLOSES_BRAKE)
         text, _ = words.made_by(PROGRAM, model, CLOSES_BRAKE)
-        found = said(linting.of_invariants(words.lines_of(text), words.line_words(model, strategy, PROGRAM)))
+        found = said(hints.of_invariants(words.lines_of(text), words.line_words(model, strategy, PROGRAM)))
         self.assertEqual([byte for byte, _ in found], [CLOSES_BRAKE.index("dI")])
 
     def test_nothing_is_hinted_at_in_the_repository(self):
         for path in sorted([*ROOT.glob("examples/*/strategy"), *ROOT.glob("examples/gallery/*/strategy"), *ROOT.glob("examples/tutorial/*/strategy")]):
             model = path.parent / "model"
-            found = linting.hints(PROGRAM, model, model.read_bytes(), path.read_bytes(), None, True)
+            found = hints.hints(PROGRAM, model, hints.Files(model.read_bytes(), path.read_bytes(), None), True)
             self.assertEqual(said(found), [], path)
 
 

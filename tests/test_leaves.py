@@ -1,12 +1,12 @@
-"""Tests of tools/leaves.py with solvers that say what the test wants."""
+"""Tests of dlkt leaves with solvers that say what the test wants."""
 
 import json
 import unittest
 
-import helping  # noqa: F401  (the path to the package)
-from dlkt.commands import leaves
-from dlkt import program as proving
 from helping import CLOSES_INCREMENT, Case, INCREMENT, PROGRAM, needs_program
+from dlkt import leaves, program
+from dlkt.leaves import LeafAnswer
+from dlkt.solvers import Reply, Word, together
 
 
 class Computing(unittest.TestCase):
@@ -19,12 +19,15 @@ class Computing(unittest.TestCase):
         self.assertEqual(leaves.implication(" ==> "), "(true) -> (false)")
 
     def test_several_answers(self):
-        valid, false, unknown = ("valid", {}), ("false", {"x": "1"}), ("unknown", {})
-        self.assertEqual(leaves.verdict([valid, unknown]), valid)
-        self.assertEqual(leaves.verdict([valid, false]), unknown)
-        self.assertEqual(leaves.verdict_of_both([valid, unknown]), unknown)
-        self.assertEqual(leaves.verdict_of_both([valid, valid]), valid)
-        self.assertEqual(leaves.verdict_of_both([unknown, false]), false)
+        valid, false, unknown = Reply(Word.VALID), Reply(Word.FALSE, {"x": "1"}), Reply(Word.UNKNOWN)
+        for one, other, word in ((valid, unknown, "valid"), (valid, false, "unknown"), (unknown, false, "false"), (unknown, unknown, "unknown")):
+            self.assertEqual(together({"z3": one, "cvc5": other}).word, word)
+        self.assertEqual(together({"z3": Reply(Word.FALSE), "cvc5": false}).values, {"x": "1"})
+
+    def test_each_must_say_so(self):
+        for by, word in ((("valid", "unknown"), "unknown"), (("valid", "valid"), "valid")):
+            said = LeafAnswer("valid", by=dict(zip(("z3", "cvc5"), by)))
+            self.assertEqual(leaves.each_says_so(said).word, word)
 
 
 @needs_program
@@ -33,7 +36,7 @@ class Asking(Case):
         super().setUp()
         self.model = self.file("model", INCREMENT)
         self.term = str(self.folder / "term")
-        proving.answer(PROGRAM, "prove", self.model, self.file("strategy", CLOSES_INCREMENT), self.term)
+        program.answer(PROGRAM, "prove", self.model, self.file("strategy", CLOSES_INCREMENT), self.term)
 
     def ask(self, *words):
         return self.tool("leaves", self.model, self.term, *words)
@@ -49,20 +52,19 @@ class Asking(Case):
     def test_both_are_wanted(self):
         self.solver("z3", "unsat")
         self.solver("cvc5", "unknown")
-        run = self.ask("--both")
+        run = self.ask("--all-solvers")
         self.assertEqual((run.returncode, run.stdout), (1, "leaf 1: unknown, for z3 says valid, cvc5 says unknown\n"))
-        told = json.loads(self.ask("--both", "--json").stdout)
+        told = json.loads(self.ask("--all-solvers", "--json").stdout)
         self.assertEqual((told["all_valid"], told["leaves"][0]["answer"]), (False, "unknown"))
         self.solver("cvc5", "unsat")
-        self.assertEqual(self.ask("--both").stdout, "leaf 1: valid\n")
+        self.assertEqual(self.ask("--all-solvers").stdout, "leaf 1: valid\n")
 
     def test_nonsense(self):
         for lines in (["sat", ")))"], ["sat", "((define-fun (x) () Real 1) (define-fun |v.x| () Real ()))"]):
             self.solver("z3", *lines)
             self.assertEqual(self.ask().returncode, 1, lines)
         self.solver("z3", "unsat")
-        script = self.solvers / "z3"
-        script.write_text(script.read_text() + "kill -9 $$\n")
+        self.script_of_solver("z3", "kill -9 $$\n")
         self.assertEqual((self.ask().returncode, self.ask().stdout), (1, "leaf 1: unknown\n"))
         self.assertEqual((self.ask("--dlk", "/bin/true").returncode, self.ask("--seconds", "0").returncode), (2, 2))
 

@@ -1,16 +1,17 @@
-"""Tests of tools/verdict.py on the built program, with solvers that say what the test wants."""
+"""Tests of dlkt verify on the built program, with solvers that say what the test wants."""
 
 import json
 import os
+import shutil
 import signal
 import subprocess
 import sys
 import time
 import unittest
+from pathlib import Path
 
-import helping
-from helping import BRAKE, CHOICE, CLOSES_BRAKE, CLOSES_CHOICE, CLOSES_INCREMENT, Case, INCREMENT, needs_program
-from dlkt.terms import readable
+from helping import BRAKE, CHOICE, CLOSES_BRAKE, CLOSES_CHOICE, CLOSES_INCREMENT, Case, INCREMENT, PROGRAM, ROOT, needs_program
+from dlkt.terms import lemmas_in, readable
 
 
 class Verdict(Case):
@@ -31,13 +32,27 @@ class Closed(Verdict):
     def test_verified(self):
         self.solver("z3", "unsat")
         self.solver("cvc5", "unknown", version="9.9")
-        run = self.on(INCREMENT, CLOSES_INCREMENT)
+        run = self.on("[x:=1;]x>=1\n", "step(1); leaf")
         self.assertEqual(run.returncode, 0)
         self.assertEqual(
             run.stdout,
-            "closed, 15 lines\nleaf 1: x>=0 ==> x+1>=1\n    z3: valid\n    cvc5: unknown\nguarded\n"
+            "closed, 14 lines\nleaf 1: ==> 1>=1\n    z3: valid\nguarded\n"
             "verified: closed, guarded, 1 leaf valid. It rests on dlk, docs/SOUNDNESS.md (on paper), z3 1.2.3 (1 of 1 leaf)\n",
         )
+
+    def test_all_solvers(self):
+        self.solver("z3", "unsat")
+        self.solver("cvc5", "unknown", version="9.9")
+        run = self.on(INCREMENT, CLOSES_INCREMENT, "--all-solvers")
+        self.assertEqual((run.returncode, self.last(run)[-48:]), (0, "docs/SOUNDNESS.md (on paper), z3 1.2.3 (1 of 1 leaf)"[-48:]))
+        self.assertIn("leaf 1: x>=0 ==> x+1>=1\n    z3: valid\n    cvc5: unknown\n", run.stdout)
+
+    def test_one_that_knows_is_enough(self):
+        self.solver("z3", "unsat")
+        self.script_of_solver("cvc5", '[ "$1" = --version ] && echo 1.0 && exit\n/bin/sleep 60\n')
+        begin = time.monotonic()
+        self.assertEqual(self.on(INCREMENT, CLOSES_INCREMENT, "-j", "2").returncode, 0)
+        self.assertLess(time.monotonic() - begin, 15)
 
     def test_no_leaves_need_no_solver(self):
         run = self.on("x>=0 -> x>=0\n", "implyR(1); close")
@@ -55,7 +70,7 @@ class Closed(Verdict):
     def test_solvers_that_contradict_each_other(self):
         self.solver("z3", "unsat")
         self.solver("cvc5", "sat")
-        run = self.on(INCREMENT, CLOSES_INCREMENT)
+        run = self.on(INCREMENT, CLOSES_INCREMENT, "--all-solvers")
         self.assertEqual((run.returncode, self.last(run)), (3, "not verified: leaf 1 is unknown"))
         self.assertIn("    z3: valid\n    cvc5: false\n", run.stdout)
 
@@ -65,7 +80,7 @@ class Closed(Verdict):
         self.assertEqual((run.returncode, self.last(run)), (3, "not verified: leaf 1 is false"))
         self.assertIn("    z3: false at x=1/2\n", run.stdout)
         self.solver("cvc5", "sat", "((define-fun |v.x| () Real 0.25))")
-        self.assertIn("    z3: false at x=1/2\n    cvc5: false at x=0.25\n", self.on(INCREMENT, CLOSES_INCREMENT).stdout)
+        self.assertIn("    z3: false at x=1/2\n    cvc5: false at x=0.25\n", self.on(INCREMENT, CLOSES_INCREMENT, "--all-solvers").stdout)
 
     def test_without_a_solver(self):
         run = self.on(INCREMENT, CLOSES_INCREMENT)
@@ -87,7 +102,7 @@ class Closed(Verdict):
         run = self.on(model, "implyR(1); dI(1); <(close, derive(1.1); useAt(DEsys,1)*2; dW(1); step(1)*2; leaf)")
         self.assertEqual(run.returncode, 0)
         self.assertIn("    with ^1 for ^(2-1)\n", run.stdout)
-        self.assertIn("tools/leaves.py (exponents)", self.last(run))
+        self.assertIn("dlkt leaves (exponents)", self.last(run))
 
 
 @needs_program
@@ -164,9 +179,113 @@ class Failing(Verdict):
 
 
 @needs_program
+class Given(Verdict):
+    """A term in place of a strategy."""
+
+    def term(self, model, strategy):
+        """The term that a strategy makes."""
+        names = [self.file("model", model), self.file("made_by", strategy), self.folder / "made"]
+        subprocess.run([PROGRAM, "prove", *names], capture_output=True, check=False)
+        return (self.folder / "made").read_bytes()
+
+    def test_a_term_of_either_version(self):
+        self.solver("z3", "unsat")
+        term = self.term(INCREMENT, CLOSES_INCREMENT)
+        for data in (term, readable(term)):
+            run = self.on(INCREMENT, data)
+            self.assertEqual((run.returncode, run.stdout.split("\n")[0]), (0, "closed, 15 lines"))
+            told = self.told(INCREMENT, data)
+            self.assertEqual((told["kind"], told["strategy"], told["verified"], told["linked"]), ("term", None, True, []))
+
+    def test_a_leaf_of_a_term_that_is_false(self):
+        self.solver("z3", "sat", "((define-fun |v.x| () Real 0.5))")
+        run = self.on(INCREMENT, self.term(INCREMENT, CLOSES_INCREMENT))
+        self.assertEqual((run.returncode, self.last(run)), (3, "not verified: leaf 1 is false"))
+        self.assertNotIn("made it", run.stdout)
+
+    def test_a_term_that_is_not_guarded(self):
+        self.solver("z3", "unsat")
+        run = self.on(BRAKE.replace("M()", "M"), self.term(BRAKE.replace("M()", "M"), CLOSES_BRAKE))
+        self.assertEqual((run.returncode, self.last(run)), (3, "not verified: line 17 isn't guarded"))
+
+    def test_a_wrong_line(self):
+        run = self.on("x>=0 -> x>=0\n", "1 start ==> x>=0 -> x>=0\n2 apply 1 1 implyL(1)\ndone\n")
+        self.assertEqual((run.returncode, self.last(run)), (2, "not verified: the term is refused"))
+        self.assertIn("strategy:2:1: refused: line 2: NoPlace\n    2 apply 1 1 implyL(1)\n    ^\n", run.stdout)
+
+    def test_another_conclusion(self):
+        run = self.on("x>=1 -> x>=1\n", "1 start ==> x>=0 -> x>=0\n2 apply 1 1 implyR(1)\n3 apply 2 1 close(1,1)\ndone\n")
+        self.assertEqual((run.returncode, self.last(run)), (2, "not verified: the term proves something else than the model"))
+
+    def test_line_ends_of_windows(self):
+        run = self.on("x>=0 -> x>=0\n", b"dlk 2\r\nnode 1 var x\r\n")
+        self.assertEqual((run.returncode, self.last(run)), (2, "not verified: the term is refused"))
+        self.assertIn("hint: the term has line ends of Windows", run.stdout)
+
+    def test_a_linked_term(self):
+        self.solver("z3", "unsat")
+        model, goal = "(x>=0 -> x>=0)&(x>=0 -> x>=0)\n", "x>=0 -> x>=0\n"
+        lemma = self.file("lemma", self.term(goal, "implyR(1); close"))
+        term = self.file("term", self.term(model, "andR(1)"))
+        subprocess.run([PROGRAM, "link", self.file("model", model), term, lemma, self.folder / "linked"], capture_output=True, check=False)
+        linked = (self.folder / "linked").read_bytes()
+        for data in (linked, readable(linked)):
+            run = self.on(model, data)
+            self.assertEqual(run.returncode, 0)
+            self.assertIn("linked: lines 3 to 5 are a lemma's, which proves 2 goals with ==> x>=0 -> x>=0\n", run.stdout)
+        self.assertEqual(self.told(model, linked)["linked"], [{"first": 3, "last": 5, "conclusion": "==> x>=0 -> x>=0", "goals": 2}])
+
+    def test_nothing_is_linked_in_the_terms_of_strategies(self):
+        for strategy in sorted(ROOT.glob("examples/*/strategy")):
+            self.assertEqual(lemmas_in(self.term((strategy.parent / "model").read_text(), strategy.read_text())), [], strategy)
+
+    def test_no_proof(self):
+        run = self.tool("verify", self.file("model", INCREMENT))
+        self.assertEqual((run.returncode, run.stderr), (4, "dlkt verify: no PROOF is named: a strategy, or a term\n"))
+
+
+@needs_program
+class Mended(Verdict):
+    """What looks wrong, and what isn't taken, at its own place."""
+
+    def said(self, model, strategy):
+        """What is printed behind the name of the folder."""
+        return self.on(model, strategy).stdout.replace(f"{self.folder}/", "")
+
+    def test_assumptions_that_contradict_each_other(self):
+        if shutil.which("z3") is None:
+            self.skipTest("z3 isn't installed")
+        self.solvers = Path(shutil.which("z3")).parent
+        run = self.on("/* */ v>=0&v<0&[x:=1;]x>0 -> [x:=v;]x>=0\n", "implyR(1)")
+        self.assertIn("model:1:7: hint: what the model assumes can never hold", self.said("/* */ v>=0&v<0 -> [x:=v;]x>=0\n", "implyR(1); step(1); leaf"))
+        self.assertNotIn("can never hold", self.said("v>=0 -> \\forall v (v<0 -> v<=0)\n", "implyR(1)"))
+        self.assertNotIn("can never hold", self.said(INCREMENT, CLOSES_INCREMENT))
+        self.assertIn("can never hold", run.stdout)
+
+    def test_a_bracket_in_quotes(self):
+        said = self.said(INCREMENT, 'implyR(1);\n  cut("(x>=0 & x>1"); close')
+        self.assertIn("strategy:2:19: refused: arguments: the text in quotes doesn't go on here (syntax); the ( at 2:8 has no other one", said)
+        said = self.said(INCREMENT, 'useAt(DC,1,"r(||)~>x>=0)&x>1")')
+        self.assertIn("strategy:1:24: refused: arguments: the text in quotes doesn't go on here (syntax); the ) at 1:24 has no other one", said)
+        self.assertIn("strategy:1:1: refused: arguments: the word takes other arguments", self.said(INCREMENT, "implyR(x)"))
+
+    def test_what_people_write(self):
+        self.assertIn("strategy:1:17: hint: a `;` stands between two parts", self.said(INCREMENT, "implyR(1); close; "))
+        self.assertIn("strategy:1:12: hint: a strategy has no comments with //", self.said(INCREMENT, "implyR(1); // close\nclose"))
+        self.assertIn("strategy:1:1: hint: there is no word auto; the command `dlkt auto MODEL`", self.said(INCREMENT, "auto"))
+        self.assertNotIn("hint", self.said(INCREMENT, 'implyR(1); cut("x>=0 /* ; ) */"); <(nil, nil)'))
+
+    def test_a_variable_beside_a_constant(self):
+        said = self.said("M>0&M()>0&Amax>0&amax()>0 -> [x:=M;]x>=0\n", "implyR(1)")
+        self.assertIn("model:1:5: hint: the model has M and M(): the one is a variable, the other a constant", said)
+        self.assertIn("model:1:11: hint: Amax is used once, and is a variable that nothing says anything of; is amax() meant?", said)
+        self.assertNotIn("hint", self.said("A>0&A>1&a()>0 -> [x:=a();]x>=0\n", "implyR(1)"))
+
+
+@needs_program
 class Terms(Verdict):
     def test_the_term_is_put_where_it_is_wanted(self):
-        run = self.on("x>=0 -> x>=0\n", "implyR(1); close", "term")
+        run = self.on("x>=0 -> x>=0\n", "implyR(1); close", "-o", "term")
         self.assertEqual(run.returncode, 0)
         term = readable((self.folder / "term").read_bytes())
         self.assertEqual(term, "1 start ==> x>=0 -> x>=0\n2 apply 1 1 implyR(1)\n3 apply 2 1 close(1,1)\ndone\n")
@@ -174,7 +293,7 @@ class Terms(Verdict):
 
     def test_a_failure_leaves_the_term_that_is_there(self):
         self.file("term", "1 start ==> x>=0\ndone\n")
-        self.assertEqual(self.on(INCREMENT, "andR(1)", "term").returncode, 2)
+        self.assertEqual(self.on(INCREMENT, "andR(1)", "-o", "term").returncode, 2)
         self.assertEqual((self.folder / "term").read_text(), "1 start ==> x>=0\ndone\n")
 
     def test_no_input_is_written(self):
@@ -183,7 +302,7 @@ class Terms(Verdict):
         os.link(strategy, self.folder / "hard")
         (self.folder / "folder").mkdir()
         for name in ("model", "strategy", "./strategy", "folder/../strategy", "link", "hard"):
-            run = self.tool("verify", model, strategy, name)
+            run = self.tool("verify", model, strategy, "-o", name)
             self.assertEqual((run.returncode, run.stdout), (4, ""), name)
             self.assertRegex(run.stderr, r"^dlkt verify: .* is an input, the same file as .*\n$")
         self.assertEqual((self.folder / "strategy").read_text(), "implyR(1); close")
@@ -191,17 +310,17 @@ class Terms(Verdict):
 
     def test_nothing_but_a_term_is_written_over(self):
         self.file("other", "implyR(1); andR(1)\n")
-        self.assertEqual(self.on("x>=0 -> x>=0\n", "implyR(1); close", "other").returncode, 4)
+        self.assertEqual(self.on("x>=0 -> x>=0\n", "implyR(1); close", "-o", "other").returncode, 4)
         self.assertEqual((self.folder / "other").read_text(), "implyR(1); andR(1)\n")
         self.file("empty", "")
-        self.assertEqual(self.on("x>=0 -> x>=0\n", "implyR(1); close", "empty").returncode, 0)
+        self.assertEqual(self.on("x>=0 -> x>=0\n", "implyR(1); close", "-o", "empty").returncode, 0)
 
     def test_line_ends_of_windows(self):
         self.file("term", b"1 start ==> x>=0\r\ndone\r\n")
-        self.assertIn("term:1:17: hint: the term has line ends of Windows", self.on("x>=0 -> x>=0\n", "implyR(1); close", "term").stdout)
+        self.assertIn("term:1:17: hint: the term has line ends of Windows", self.on("x>=0 -> x>=0\n", "implyR(1); close", "-o", "term").stdout)
 
     def test_a_device(self):
-        self.assertEqual(self.on("x>=0 -> x>=0\n", "implyR(1); close", "/dev/null").returncode, 0)
+        self.assertEqual(self.on("x>=0 -> x>=0\n", "implyR(1); close", "-o", "/dev/null").returncode, 0)
         self.assertFalse(os.path.isfile("/dev/null"))
 
 
@@ -210,13 +329,13 @@ class Errors(Verdict):
     def test_one_line_each(self):
         model, strategy = self.file("model", INCREMENT), self.file("strategy", CLOSES_INCREMENT)
         (self.folder / "folder").mkdir()
-        for words in (("nope", strategy), (model, "nope"), ("folder", strategy), (model, "folder"), (model, strategy, "folder"), (model, strategy, "nope/term"),
+        for words in (("nope", strategy), (model, "nope"), ("folder", strategy), (model, "folder"), (model, strategy, "-o", "folder"), (model, strategy, "-o", "nope/term"), (model,),
                       ("-", strategy), (model, strategy, "--dlk", "/nope"), (model, strategy, "--dlk", model)):
             run = self.tool("verify", *words)
             self.assertEqual((run.returncode, run.stdout, run.stderr.count("\n")), (4, "", 1), words)
 
     def test_wrong_words(self):
-        for words in ((), ("model",), ("a", "b", "c", "d"), ("a", "b", "--seconds", "0"), ("a", "b", "--seconds", "x"), ("a", "b", "--nope")):
+        for words in ((), ("a", "b", "c"), ("a", "b", "--seconds", "0"), ("a", "b", "--seconds", "x"), ("a", "b", "-j", "0"), ("a", "b", "--nope")):
             self.assertEqual(self.tool("verify", *words).returncode, 4)
 
     @unittest.skipIf(os.geteuid() == 0, "root may read and write everything")
@@ -264,7 +383,7 @@ class Errors(Verdict):
 
     def test_a_term_that_is_a_link_to_itself(self):
         os.symlink("loop", self.folder / "loop")
-        self.assertEqual(self.on(INCREMENT, CLOSES_INCREMENT, "loop").returncode, 4)
+        self.assertEqual(self.on(INCREMENT, CLOSES_INCREMENT, "-o", "loop").returncode, 4)
 
     def test_names_that_are_no_text(self):
         model = self.file("model", INCREMENT)
@@ -276,7 +395,7 @@ class Errors(Verdict):
         self.assertFalse(any(line.startswith("verified") for line in run.stdout.split("\n")))
 
     def test_outputs_that_cannot_be_written(self):
-        words = f"'{sys.executable}' '{helping.TOOLS}/verdict.py' '{self.file('model', 'x>=0 -> x>=0')}' '{self.file('strategy', 'implyR(1); close')}'"
+        words = f"'{sys.executable}' -m dlkt verify '{self.file('model', 'x>=0 -> x>=0')}' '{self.file('strategy', 'implyR(1); close')}'"
         for behind, status in ((">/dev/full", 4), ("--json >/dev/full", 4), (">&-", 0), (">&- 2>&-", 0)):
             run = subprocess.run(["/bin/sh", "-c", f"{words} {behind}"], env=self.environment(), capture_output=True, text=True, check=False)
             self.assertEqual(run.returncode, status, behind)

@@ -25,16 +25,16 @@ class Command(NamedTuple):
 COMMANDS = {
     "verify": Command("dlkt.commands.verify", 4),
     "auto": Command("dlkt.commands.auto"),
+    "refute": Command("dlkt.commands.refute"),
+    "import": Command("dlkt.commands.import_"),
     "batch": Command("dlkt.commands.batch"),
     "leaves": Command("dlkt.commands.leaves"),
     "page": Command("dlkt.commands.page"),
-    "print": Command("dlkt.commands.print"),
     "tree": Command("dlkt.commands.tree"),
     "prompt": Command("dlkt.commands.prompt"),
+    "print": Command("dlkt.commands.print"),
     "readable": Command("dlkt.commands.readable"),
-    "refute": Command("dlkt.commands.refute"),
     "words": Command("dlkt.words"),
-    "import": Command("dlkt.commands.import_"),
     "lsp": Command("dlkt.commands.lsp"),
 }
 
@@ -71,5 +71,8 @@ def parser_with(names: Iterable[str]) -> Words:
 def main(words: Sequence[str]) -> int:
     """Does what the words say, and gives the exit status. A command that is named is read alone: the others would make each start slower."""
     sys.setrecursionlimit(MOST_LEVELS)
-    options = parser_with(words[:1] if words and words[0] in COMMANDS else COMMANDS).parse_args(words)
+    named = words[:1] if words and words[0] in COMMANDS else []
+    parser = parser_with(named or COMMANDS)
+    parser.refused = COMMANDS[named[0]].refused if named else INPUT_REFUSED
+    options = parser.parse_args(words)
     return ended(f"dlkt {options.command}", wanting(options.run), options, options.refused)

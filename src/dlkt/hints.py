@@ -1,14 +1,20 @@
-"""What looks wrong in a model or a strategy, though the program takes it. A hint says where and what, and never changes a verdict."""
+"""What looks wrong in a model or a strategy, though the program may take it. A hint says where and what, and never changes a verdict."""
 
 import difflib
 import re
+import tempfile
+from pathlib import Path
 from typing import Iterable, Iterator, NamedTuple, Sequence
 
-from dlkt import strategies
+from dlkt import reader, strategies
 from dlkt.calculus import AXIOMS, LIBRARY, OTHER_WORDS, PREMISES, is_word
-from dlkt.program import Name, answer, at_top, split_list
+from dlkt.leaves import exported_alone
+from dlkt.program import Name, Refused, answer, at_top, position, refusal_in, split_list
+from dlkt.solvers import Solvers, Word
 from dlkt.strategies import Atom, Part
+from dlkt.trees import Tree, Trees, text as text_of
 
+MOST_SECONDS = 5.0  # for the question whether assumptions contradict each other
 MARK_OF_ORDER = b"\xef\xbb\xbf"
 COMMENT = re.compile(rb"/\*.*?\*/|//[^\n]*", re.DOTALL)
 TOKEN = re.compile(r"\\?[A-Za-z][A-Za-z0-9_]*")
@@ -22,7 +28,7 @@ ARCHIVE = re.compile(
 )
 # What a word of another prover is here.
 OTHER_PROVERS = {
-    "QE": "leaf", "auto": "prop", "unfold": "(step(1) | andR(1) | implyR(1) | skolemR(1))*20", "id": "close", "ODE": "dC, dI and dW",
+    "QE": "leaf", "unfold": "(step(1) | andR(1) | implyR(1) | skolemR(1))*20", "id": "close", "ODE": "dC, dI and dW",
     "assignb": "step", "composeb": "step", "choiceb": "step", "testb": "step", "randomb": "step", "allR": "skolemR", "existsL": "skolemL",
     "diffInvariant": "dC and dI", "GV": "useAt(V,P)", "abstractionb": "useAt(V,P)", "solve": "useAt(DS,P)",
 }
@@ -38,6 +44,14 @@ class Hint(NamedTuple):
     file: str
     byte: int
     text: str
+
+
+class Files(NamedTuple):
+    """The bytes of the files that are looked at. A proof may have no strategy, and no term that was there before."""
+
+    model: bytes
+    strategy: bytes | None
+    term: bytes | None
 
 
 def blanked(data: bytes) -> str:
@@ -71,9 +85,9 @@ def names_of(text: str, begin: int = 0) -> Names:
     return Names(variables, symbols)
 
 
-def of_files(model: bytes, strategy: bytes, term: bytes | None) -> Iterator[Hint]:
+def of_files(model: bytes, strategy: bytes | None, term: bytes | None) -> Iterator[Hint]:
     """Hints at the bytes of the files: marks of order, line ends, and an archive."""
-    for file, data in (("model", model), ("strategy", strategy), ("term", term or b"")):
+    for file, data in (("model", model), ("strategy", strategy or b""), ("term", term or b"")):
         if data.startswith(MARK_OF_ORDER):
             yield Hint(file, 0, "the file begins with a byte order mark, which no text of dlk has: save it as UTF-8 without one")
     if term and b"\r\n" in term:
@@ -97,6 +111,9 @@ def of_words(tree: Part) -> Iterator[Hint]:
     words = [*PREMISES, *LIBRARY, *OTHER_WORDS]
     for atom in strategies.atoms(tree):
         if not is_word(atom.name):
+            if atom.name == "auto":
+                yield Hint("strategy", atom.begin, "there is no word auto; the command `dlkt auto MODEL` looks for a whole proof")
+                continue
             other = OTHER_PROVERS.get(atom.name)
             meant = f"; in its place stands {other}" if other else near(atom.name, words)
             axiom = f"; the axiom is used by useAt({atom.name},P)" if atom.name in AXIOMS and not other else ""
@@ -218,12 +235,151 @@ def of_invariants(lines: Sequence[Line], words: Sequence[tuple[int, str] | None]
                 yield Hint("strategy", made[0], f"{made[1]} needs {name} constant, which is a variable that its equations don't change")
 
 
-def hints(program: str, model_path: Name, model: bytes, strategy: bytes, term: bytes | None, is_guarded: bool) -> list[Hint]:
-    """All hints that need no proof. Of a guarded one no variable need be constant."""
-    found = [*of_files(model, strategy, term)]
+# Texts that are no strategy
+
+def masked(text: str) -> str:
+    """The text of a strategy with blanks for what stands in comments and in quotes."""
+    return re.sub(r"/\*.*?\*/|\"[^\"]*\"", lambda found: re.sub(r"[^\n]", " ", found[0]), text, flags=re.DOTALL)
+
+
+def of_ends(text: str) -> Iterator[Hint]:
+    """Hints at a `;` behind which no part stands, and at comments of another kind."""
+    bare = masked(text)
+    for found in re.finditer(r";(?=\s*(?:[;,)|]|\Z))", bare):
+        yield Hint("strategy", found.start(), "a `;` stands between two parts, and none follows here: leave it out")
+    comment = bare.find("//")
+    if comment >= 0:
+        yield Hint("strategy", comment, "a strategy has no comments with //: write /* .. */")
+
+
+def unmatched(text: str) -> int | None:
+    """The place of the first bracket that no other one matches, or none."""
+    opened: list[int] = []
+    pairs = {")": "(", "]": "[", "}": "{"}
+    for at, letter in enumerate(text):
+        if letter in "([{":
+            opened.append(at)
+        elif letter in pairs and (not opened or text[opened.pop()] != pairs[letter]):
+            return at
+    return opened[0] if opened else None
+
+
+def fault_in_quotes(program: str, text: str, byte: int) -> Hint | None:
+    """The place at which a text in quotes of the atom at this byte is refused, as the program tells it; none where it isn't refused."""
     try:
-        tree = strategies.read(strategy.decode("latin-1"))
+        atoms = [atom for atom in strategies.atoms(strategies.read(text)) if atom.begin == byte]
     except strategies.Wrong:
-        return [*found, *of_functions(model, None)]
-    found += [*of_axioms(tree), *of_words(tree), *of_names(model, tree), *of_functions(model, tree)]
-    return found if is_guarded else [*found, *of_constants(program, model_path, model, tree)]
+        return None
+    for inside, begin in (it for atom in atoms for it in texts_of(atom)):
+        with tempfile.TemporaryDirectory() as folder:
+            file = Path(folder) / "file"
+            file.write_bytes(inside.encode("latin-1"))
+            refusal = refusal_in(answer(program, "print", file).text)
+        if refusal is None:
+            continue
+        said = f"arguments: the text in quotes doesn't go on here ({refusal.why})"
+        alone = unmatched(inside)
+        if alone is not None and refusal.why == "syntax":
+            place = position(text, begin + alone)
+            said += f"; the {inside[alone]} at {place.line}:{place.column} has no other one that matches it"
+        return Hint("strategy", begin + refusal.byte, said)
+    return None
+
+
+# Names and assumptions of a model
+
+def tree_of(model: bytes) -> Tree | None:
+    """The tree of a model, or none where it can't be read."""
+    try:
+        return reader.model(model.decode("latin-1"), Trees())[0]
+    except (reader.Wrong, RecursionError):
+        return None
+
+
+def names_bound(tree: Tree) -> set[str]:
+    """The names that quantifiers and programs of a tree bind."""
+    found, waiting, seen = set[str](), [tree], {id(tree)}
+    while waiting:
+        here = waiting.pop()
+        if here.word in ("forall", "exists", "assign", "any"):
+            found.add(here.detail.rstrip("'"))
+        elif here.word == "system":
+            found |= {item.rstrip("'") for item in here.detail.split(",")}
+        new = [kid for kid in here.kids if id(kid) not in seen]
+        seen |= set(map(id, new))
+        waiting += new
+    return found
+
+
+def letters_of(name: str) -> str:
+    """The letters of a name, by which two names look alike."""
+    return name.lower().replace("_", "")
+
+
+def of_twins(model: bytes, tree: Tree) -> Iterator[Hint]:
+    """Hints at a variable beside a constant of the same name, and at one that is used once beside a constant of the same letters."""
+    text = blanked(model)
+    known, bound = names_of(text), names_bound(tree)
+    constants = [name for name in known.symbols if re.search(rf"\b{name}\s*\(\s*\)", text)]
+    for name, byte in known.variables.items():
+        if name in constants:
+            later = max(byte, known.symbols[name])
+            yield Hint("model", later, f"the model has {name} and {name}(): the one is a variable, the other a constant, and they needn't be equal")
+            continue
+        alike = [constant for constant in constants if letters_of(constant) == letters_of(name)]
+        uses = re.findall(rf"(?<![A-Za-z0-9_]){name}(?![A-Za-z0-9_]|\s*[({{])", text)
+        if alike and name not in bound and len(uses) == 1:
+            yield Hint("model", byte, f"{name} is used once, and is a variable that nothing says anything of; is {alike[0]}() meant?")
+
+
+def assumptions(tree: Tree) -> list[Tree]:
+    """What stands before the arrows of a model, part by part."""
+    found: list[Tree] = []
+    while tree.word == "imply" or tree.word == "forall" and not found:
+        waiting = [tree.kids[0]] if tree.word == "imply" else []
+        while waiting:
+            here = waiting.pop()
+            if here.word == "and":
+                waiting += reversed(here.kids)
+            else:
+                found.append(here)
+        tree = tree.kids[-1]
+    return found
+
+
+def is_arithmetic(tree: Tree) -> bool:
+    """Whether nothing but arithmetic stands in a formula."""
+    if tree.word in ("app", "holds", "ufun", "upred", "quant", "dot", "hole", "diff", "difff", "box", "dia"):
+        return tree.word == "app" and not tree.kids
+    return not (tree.word == "var" and tree.detail.endswith("'")) and all(map(is_arithmetic, tree.kids))
+
+
+def of_assumptions(program: str, model: bytes, solvers: Solvers) -> Iterator[Hint]:
+    """A hint where what a model assumes contradicts itself, as a solver says."""
+    tree = tree_of(model)
+    parts = [part for part in assumptions(tree) if is_arithmetic(part)] if tree else []
+    if not parts or not solvers.names:
+        return
+    try:
+        script = exported_alone(program, ", ".join(map(text_of, parts)) + " ==> false")
+    except Refused:
+        return
+    said = solvers.check(script.text, min(solvers.seconds, MOST_SECONDS)) if script.text is not None else None
+    if said and said.word is Word.VALID:
+        byte = len(blanked(model)) - len(blanked(model).lstrip())
+        by = " and ".join(solver for solver, reply in said.by.items() if reply.word is Word.VALID)
+        yield Hint("model", byte, f"what the model assumes can never hold, says {by}: so it is true whatever the program does, and says nothing")
+
+
+def hints(program: str, model_path: Name, files: Files, is_guarded: bool) -> list[Hint]:
+    """All hints that need no proof. Of a guarded one no variable need be constant."""
+    found = [*of_files(*files)]
+    model = tree_of(files.model)
+    twins = [*of_twins(files.model, model)] if model else []
+    text = (files.strategy or b"").decode("latin-1")
+    try:
+        tree = strategies.read(text)
+    except strategies.Wrong:
+        return [*found, *twins, *of_functions(files.model, None), *of_ends(text)]
+    found += [*of_axioms(tree), *of_words(tree), *of_names(files.model, tree), *twins, *of_functions(files.model, tree)]
+    return found if is_guarded else [*found, *of_constants(program, model_path, files.model, tree)]

@@ -158,6 +158,13 @@ def seconds(text: str) -> int:
     return int(text)
 
 
+def count(text: str) -> int:
+    """How many at a time, of a command line."""
+    if not re.fullmatch(r"[1-9]\d{0,3}", text):
+        raise argparse.ArgumentTypeError(f"{text} is no number from 1 on")
+    return int(text)
+
+
 def position(text: str | bytes, byte: int) -> Position:
     """Where a byte of a text stands. The text is bytes, or a string of one byte a character."""
     data = text if isinstance(text, bytes) else text.encode("latin-1", "replace")

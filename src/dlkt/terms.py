@@ -15,6 +15,7 @@ from dlkt.program import Refused
 from dlkt.trees import DETAILS, FORMULA, NAME, ROWS, SYMBOL, Tree, Trees, fits, is_small, may_replace, pair_text, sequent_text, text
 
 HEAD, END = "dlk 2", "done"
+LONGEST_LOOK = 1 << 23  # bytes of a term that are looked through for lemmas
 NUMBER = "[1-9][0-9]{0,8}"
 # The words of rules by what stands in their brackets; each other rule has one place.
 WITH_FORMULA, WITH_NAME, WITH_PLACES = ("cut", "cutL", "cutR"), ("boundL", "boundR"), ("close", "exchangeL", "exchangeR")
@@ -66,6 +67,15 @@ class Step(NamedTuple):
     sides: Sides | None = None
     pairs: Pairs | None = None
     formula: Tree | None = None
+
+
+class Lemma(NamedTuple):
+    """A lemma that was linked into a term: its first and its last step, what it concludes, and how many goals it proves."""
+
+    first: int
+    last: int
+    conclusion: str
+    goals: int
 
 
 class Readers(NamedTuple):
@@ -343,6 +353,50 @@ def in_version_2(term: Term) -> str:
             nodes.add(tree)
         lines.append(nodes.line(step))
     return "".join(f"{line}\n" for line in [*lines, END])
+
+
+# Linked terms
+
+def facts_of(step: Step) -> list[int]:
+    """The steps on which a step rests."""
+    numbers = step.rest.split(" ")
+    if step.word in ("apply", "subst", "rename"):
+        return [int(numbers[0])]
+    return [int(numbers[0]), int(numbers[2])] if step.word == "merge" else []
+
+
+def lemma_at_end(steps: Sequence[Step]) -> Lemma | None:
+    """The lemma that `link` put behind these steps, or none where their end doesn't look so: a start, steps that rest on no earlier ones, and then
+    nothing but merges of the last of these."""
+    if len(steps) < 3 or steps[-1].word != "merge":
+        return None
+    last = facts_of(steps[-1])[1]
+    tail = [facts_of(step) for step in steps[last:] if step.word == "merge"]
+    if len(tail) != len(steps) - last or not tail:
+        return None
+    first = tail[0][0] + 1
+    is_chain = all(fact[1] == last for fact in tail) and all(fact[0] == last + number for number, fact in enumerate(tail[1:], 1))
+    lemma = steps[first - 1 : last]
+    if not is_chain or first < 2 or len(lemma) < 2 or lemma[0].sides is None or lemma[0].word != "start":
+        return None
+    if any(fact < first for step in lemma for fact in facts_of(step)):
+        return None
+    return Lemma(first, last, sequent_text(*lemma[0].sides), len(tail))
+
+
+def lemmas_in(data: str | bytes) -> list[Lemma]:
+    """The lemmas that were linked into a term, the last one first, as far as its form tells. Of a very long term nothing is told."""
+    if len(data) > LONGEST_LOOK:
+        return []
+    try:
+        steps: Sequence[Step] = read(data).steps
+    except Wrong:
+        return []
+    found = []
+    while lemma := lemma_at_end(steps):
+        found.append(lemma)
+        steps = steps[: lemma.first - 1]
+    return found
 
 
 # For the tools that want the lines of version 1

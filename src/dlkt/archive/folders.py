@@ -114,7 +114,9 @@ def laid_out_sketch(sketch: str) -> str:
 
 
 def without_places(part: strategies.Part) -> tuple[object, ...]:
-    """A strategy without its bytes, to compare it."""
+    """A strategy without its bytes and its brackets round one part, to compare it."""
+    while isinstance(part, (strategies.Sequence, strategies.Choice)) and len(part.parts) == 1:
+        part = part.parts[0]
     if isinstance(part, strategies.Atom):
         return part.name, tuple((argument.kind, argument.text) for argument in part.arguments)
     times = part.times if isinstance(part, strategies.Repeat) else 0

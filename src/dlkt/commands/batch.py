@@ -1,6 +1,6 @@
 """Says of many proofs which are verified.
 
-    dlkt batch FOLDER.. [-j N] [--against TABLE] [--seconds N] [--json] [--dlk PROGRAM]
+    dlkt batch FOLDER.. [-j N] [--dask ADDRESS] [--against TABLE] [--seconds N] [--json] [--dlk PROGRAM]
 
 A proof is a folder with a `model` and a `strategy` in it, or with a `model` and a `term`; each one below the named folders is looked at,
 also behind a link, N at a time (as many as there are processors). Where a name has what ends a line, an escape stands for it. Of a
@@ -16,32 +16,37 @@ closed, guarded, and all leaves valid by the solvers that are there. A table is 
 `6/6` are the leaves that are valid, and all. Behind a `#` stands why a proof isn't verified. With --against and a table that was printed
 before it is said last what changed since, but for the times. --json prints one object in place of all this.
 
+With --dask the proofs are tasks of a Dask scheduler (Debian's python3-distributed) at this address, each with the bytes of its folder; what a
+worker had that is lost is done again. Workers need this package, the solvers, and the program: that of DLK there, or of the same path as here.
+
 The exit status is 0 where all are verified, 1 where one isn't, 2 where nothing could be looked at, 130 behind control-C, which ends all.
 Nothing of this is proved, but what the program proves.
 """
 
 import argparse
 import contextlib
+import importlib
 import json
 import os
 import signal
 import subprocess
 import sys
-import tempfile
 import time
 from concurrent.futures import ThreadPoolExecutor
 from pathlib import Path
-from types import SimpleNamespace
-from typing import NamedTuple
+from typing import Any, Iterable, Iterator, Mapping, NamedTuple, Sequence
 
-from dlkt.commands.leaves import solvers_there
-from dlkt.program import Refused, answer, one_line, program_of, read_bytes, seconds
-from dlkt.commands.verify import VERIFIED, Work, at
+from dlkt.commands.verify import at
+from dlkt.program import Refused, count, one_line, program_of, read_bytes, seconds
+from dlkt.solvers import there
+from dlkt.verdict import Fault, Kind, Options, Source, Verdict, verdict_on
 
 WIDTHS = (14, 10, 12, 7, 7, 9)
 HEAD = ("verdict", "proof", "guard", "leaves", "lines", "seconds", "folder")
 NUMBERS = ("lines", "seconds")
 WORD, OTHER_WORD, NONE = "verified", "not-verified", "-"
+PATIENCE = 10  # seconds in which a scheduler must answer
+MOST_TRIES = 10  # how often a proof whose worker was lost, or whose task failed, is looked at again
 
 
 class Row(NamedTuple):
@@ -57,88 +62,72 @@ class Row(NamedTuple):
     why: str = ""
 
 
+# A proof that is looked at: its name, and its folder.
+Named = tuple[str, Path]
+
+
 # One proof
 
-class Kept(Work):
-    """What is known of a model and a term that is kept, without its strategy."""
-
-    def __init__(self, options, folder):
-        super().__init__(SimpleNamespace(**{**vars(options), "strategy": os.devnull, "term": None}), folder)
-        self.term.write_bytes(read_bytes(options.term))
-
-    def prove(self):
-        """Replays the term."""
-        self.take(answer(self.program, "check", self.model, self.term))
+def files_of(folder: Path) -> dict[str, bytes]:
+    """The bytes of the files of a proof: its model, and its strategy, or else its term."""
+    names = ("model", "strategy" if os.path.lexists(folder / "strategy") else "term")
+    return {name: read_bytes(folder / name) for name in names}
 
 
-def found_out(folder, options):
-    """What there is to say of the proof in a folder."""
-    has_strategy = os.path.lexists(folder / "strategy")
-    words = {"model": str(folder / "model"), "strategy": str(folder / "strategy"), "term": None if has_strategy else str(folder / "term")}
-    given = SimpleNamespace(**words, seconds=options.seconds, dlk=options.dlk)
-    with tempfile.TemporaryDirectory() as place:
-        work = (Work if has_strategy else Kept)(given, place)
-        work.prove()
-        if work.told["outcome"] != "refused":
-            for _ in work.ask():
-                pass
-        return work.told, work.conclude()
+def verdict_of(files: Mapping[str, bytes], options: Options) -> Verdict:
+    """The verdict on a proof of these files."""
+    kind = Kind.STRATEGY if "strategy" in files else Kind.TERM
+    return verdict_on(Source("model", files["model"]), Source(str(kind), files[kind]), options._replace(kind=kind))
 
 
-def refusal_in_short(refusal):
+def refusal_in_short(fault: Fault) -> str:
     """Why an input is refused, and where."""
-    if refusal["place"] is None:
-        return refusal["text"]
-    place = {**refusal["place"], "file": Path(refusal["place"]["file"]).name}
-    return f"{at(place)}: {refusal['why']}"
+    if fault.place is None or fault.text.startswith(("refused: line", "refused: other-conclusion")):
+        return fault.text
+    return f"{at(fault.place)}: {fault.why}"
 
 
-def row_of(name, told, status, took):
+def row_of(name: str, verdict: Verdict, took: str) -> Row:
     """The line of a proof."""
-    if told["outcome"] == "refused":
-        why = refusal_in_short(told["refusal"])
+    found, guard = verdict.found, verdict.guard
+    if isinstance(found, Fault) or guard is None:
+        why = refusal_in_short(found) if isinstance(found, Fault) else "its guard wasn't asked"
         return Row(OTHER_WORD, "refused", NONE, NONE, NONE, took, name, why)
-    valid = sum(leaf["answer"] == "valid" for leaf in told["leaves"])
-    guard = told["guard"]
+    valid = sum(leaf.said.word == "valid" for leaf in verdict.leaves)
     # Of the reasons the last is that a line isn't guarded, where one isn't: the guard's own words say more.
-    why = told["reasons"] if guard["guarded"] else [*told["reasons"][:-1], guard["text"]]
+    reasons = verdict.reasons if guard.is_guarded else [*verdict.reasons[:-1], guard.text]
     return Row(
-        WORD if status == VERIFIED else OTHER_WORD,
-        told["outcome"],
-        "guarded" if guard["guarded"] else "unguarded",
-        f"{valid}/{len(told['leaves'])}",
-        str(told["lines"]),
-        took,
-        name,
-        "; ".join(why),
+        WORD if verdict.is_verified else OTHER_WORD, verdict.outcome, "guarded" if guard.is_guarded else "unguarded",
+        f"{valid}/{len(verdict.leaves)}", str(found.lines), took, name, "; ".join(reasons),
     )
 
 
-def looked_at(name, folder, options):
-    """The line of the proof in a folder, also where nothing can be said of it."""
+def looked_at(name: str, files: Mapping[str, bytes], options: Options) -> Row:
+    """The line of a proof, also where nothing can be said of it."""
     begin = time.monotonic()
-
-    def took():
-        return f"{time.monotonic() - begin:.1f}"
-
     try:
-        told, status = found_out(Path(folder), options)
-        return row_of(name, told, status, took())
+        verdict = verdict_of(files, options)
+        return row_of(name, verdict, f"{time.monotonic() - begin:.1f}")
     except Refused as why:
-        return Row(OTHER_WORD, "unknown", NONE, NONE, NONE, took(), name, one_line(str(why)))
+        return unknown(name, str(why))
+
+
+def unknown(name: str, why: str) -> Row:
+    """The line of a proof of which nothing can be said."""
+    return Row(OTHER_WORD, "unknown", NONE, NONE, NONE, NONE, name, one_line(why))
 
 
 # Many proofs, each in a process of its own
 
-def is_proof(folder):
+def is_proof(folder: Path) -> bool:
     """Whether a folder has a model, and a strategy or a term. A link that leads nowhere counts, too: its row says so."""
     return os.path.lexists(folder / "model") and any(os.path.lexists(folder / name) for name in ("strategy", "term"))
 
 
-def folders_below(root):
+def folders_below(root: Path) -> Iterator[Path]:
     """A folder and all those below it, those behind links, too, but for a link to a folder above itself. Refused where one can't be read."""
-    def refuse(fault):
-        raise Refused(f"{fault.filename}: {fault.strerror.lower()}")
+    def refuse(fault: OSError) -> None:
+        raise Refused(f"{fault.filename}: {(fault.strerror or str(fault)).lower()}")
 
     for place, below, _ in os.walk(root, onerror=refuse, followlinks=True):
         here = Path(place)
@@ -147,10 +136,10 @@ def folders_below(root):
         yield here
 
 
-def proofs_below(names):
+def proofs_below(names: Sequence[str]) -> list[Named]:
     """The folders with a proof, each with its name: below one named folder that is none as it is from there, else as it is from here. The
     one in which one stands has its own name, where no other is called so."""
-    found = []
+    found: list[Named] = []
     for name in names:
         root = Path(name)
         if not root.is_dir():
@@ -165,17 +154,18 @@ def proofs_below(names):
 
 
 class Crew:
-    """The processes that are at work, each in a group of its own with the solvers that it asks, so that control-C ends all of them."""
+    """The processes that are at work, each in a group of its own with what it starts, so that control-C ends all of them."""
 
-    def __init__(self, options):
-        self.options, self.running, self.is_over = options, set(), False
+    def __init__(self, options: argparse.Namespace) -> None:
+        self.options, self.is_over = options, False
+        self.running: set[subprocess.Popen[bytes]] = set()
 
-    def row(self, proof):
+    def row(self, proof: Named) -> Row:
         """The line of one proof."""
         name, folder = proof
         options = [f"--one={name}", f"--seconds={self.options.seconds}", f"--dlk={self.options.dlk}"]
         words = [sys.executable, "-m", "dlkt", "batch", *options, "--", str(folder)]
-        pipes = {"stdin": subprocess.DEVNULL, "stdout": subprocess.PIPE, "stderr": subprocess.PIPE}
+        pipes: dict[str, Any] = {"stdin": subprocess.DEVNULL, "stdout": subprocess.PIPE, "stderr": subprocess.PIPE}
         with subprocess.Popen(words, start_new_session=True, **pipes) as process:
             self.running.add(process)
             if self.is_over:
@@ -185,15 +175,15 @@ class Crew:
         if process.returncode == 0:
             return Row(*json.loads(out))
         last = (complaint.decode("utf-8", "replace").strip() or f"it ended with status {process.returncode}").rpartition("\n")[2]
-        return Row(OTHER_WORD, "unknown", NONE, NONE, NONE, NONE, name, last)
+        return unknown(name, last)
 
-    def end(self):
+    def end(self) -> None:
         """Ends all that is at work."""
         self.is_over = True
         for process in list(self.running):
             interrupt(process)
 
-    def rows(self, proofs):
+    def rows(self, proofs: Sequence[Named]) -> Iterator[Row]:
         """The lines of all proofs, in their order, as they come."""
         with ThreadPoolExecutor(self.options.jobs) as pool:
             try:
@@ -204,15 +194,67 @@ class Crew:
                 raise
 
 
-def interrupt(process):
-    """Ends a process that was started here, with those that it started itself: all are in its group."""
+def interrupt(process: "subprocess.Popen[bytes]") -> None:
+    """Ends a process that was started here, with those that it started itself: all but solvers, which it ends, are in its group."""
     with contextlib.suppress(ProcessLookupError):
         os.killpg(process.pid, signal.SIGINT)
 
 
+def one(name: str, folder: Path, options: argparse.Namespace) -> Row:
+    """The line of the proof in a folder, in a process of the crew. Its leaves are asked one at a time: its fellows are at work, too."""
+    try:
+        return looked_at(name, files_of(folder), Options(options.dlk, options.seconds, 1))
+    except Refused as why:
+        return unknown(name, str(why))
+
+
+# Many proofs, each a task of a Dask scheduler
+
+def task(name: str, files: Mapping[str, bytes], program: str, limit: int) -> Row:
+    """The line of a proof, on a worker: the program is that of the worker, or that of the same path there."""
+    try:
+        return looked_at(name, files, Options(program_of(os.environ.get("DLK") or program), limit, 1))
+    except Refused as why:
+        return unknown(name, str(why))
+
+
+def rows_by_dask(proofs: Sequence[Named], options: argparse.Namespace) -> Iterator[Row]:
+    """The lines of all proofs, in their order, as the workers of a scheduler find them. What a worker had that is lost is done again."""
+    try:
+        distributed = importlib.import_module("distributed")
+    except ImportError as fault:
+        raise Refused("--dask wants Dask's scheduler: apt-get install python3-distributed") from fault
+    try:
+        client = distributed.Client(options.dask, timeout=f"{PATIENCE}s", set_as_default=False)
+    except (OSError, ValueError) as fault:
+        raise Refused(f"no Dask scheduler answers at {options.dask}") from fault
+    with client:
+        tasks = []
+        for name, folder in proofs:
+            try:
+                work = client.submit(task, name, files_of(folder), options.dlk, options.seconds, pure=False, retries=MOST_TRIES)
+                tasks.append((name, work))
+            except Refused as why:
+                tasks.append((name, unknown(name, str(why))))
+        try:
+            for name, work in tasks:
+                yield work if isinstance(work, Row) else row_by_worker(name, work)
+        except BaseException:
+            client.cancel([work for _, work in tasks if not isinstance(work, Row)])
+            raise
+
+
+def row_by_worker(name: str, work: Any) -> Row:
+    """The line that a task has, or why it has none."""
+    try:
+        return Row(*work.result())
+    except Exception as fault:  # noqa: BLE001  (whatever a worker raises comes here)
+        return unknown(name, f"its task failed: {fault}")
+
+
 # The table
 
-def line_of(cells):
+def line_of(cells: Sequence[str]) -> str:
     """A line of the table. Numbers stand on the right of their columns."""
     before = [
         f"{cell:>{width - 2}}  " if head in NUMBERS else f"{cell:<{width}}" for cell, width, head in zip(cells, WIDTHS, HEAD)
@@ -220,26 +262,26 @@ def line_of(cells):
     return "".join(cell if cell.endswith(" ") else f"{cell} " for cell in before) + cells[-1]
 
 
-def lines_of(row):
+def lines_of(row: Row) -> list[str]:
     """The lines of a proof."""
     return [line_of(row[: len(HEAD)]), *([f"# {row.folder}: {row.why}"] if row.why else [])]
 
 
-def last_line(rows):
+def last_line(rows: Sequence[Row]) -> str:
     """How many are verified."""
     return f"{sum(row.verdict == WORD for row in rows)} of {len(rows)} verified"
 
 
-def rows_in(name):
+def rows_in(name: str) -> list[Row]:
     """The rows of a table that was printed before."""
     lines = [line for line in read_bytes(name).decode("utf-8", "replace").split("\n") if line.strip() and not line.startswith("#")]
     if not lines or tuple(lines[0].split()) != HEAD:
-        raise Refused(f"{name} holds no table of batch.py")
+        raise Refused(f"{name} holds no table of dlkt batch")
     cells = [line.split(None, len(HEAD) - 1) for line in lines[1:]]
     return [Row(*those) for those in cells if len(those) == len(HEAD) and those[0] in (WORD, OTHER_WORD)]
 
 
-def changes(before, now):
+def changes(before: Sequence[Row], now: Sequence[Row]) -> list[str]:
     """What changed from one table to another, a line each, but for the times."""
     old, new = ({row.folder: row for row in rows} for rows in (before, now))
     found = [f"gone: {folder}" for folder in sorted(old.keys() - new.keys())]
@@ -252,7 +294,7 @@ def changes(before, now):
     return found
 
 
-def object_of(row):
+def object_of(row: Row) -> dict[str, Any]:
     """A row as --json prints it: numbers as numbers, and nothing where nothing is known."""
     known = {head: None if cell == NONE else cell for head, cell in zip(Row._fields, row)}
     valid, _, leaves = (known["leaves"] or "").partition("/")
@@ -265,7 +307,7 @@ def object_of(row):
     return {**known, **numbers, "verified": row.verdict == WORD}
 
 
-def print_table(rows):
+def print_table(rows: Iterable[Row]) -> list[Row]:
     """Prints the table, a line as it comes, and gives its rows."""
     print(line_of(HEAD), flush=True)
     told = []
@@ -276,22 +318,15 @@ def print_table(rows):
     return told
 
 
-def jobs(text):
-    """How many at a time."""
-    number = int(text)
-    if number < 1:
-        raise ValueError
-    return number
-
-
 HELP = "says of many proofs which are verified"
 EXAMPLE = "dlkt batch examples/gallery -j 2"
 
 
-def add_words(parser):
+def add_words(parser: argparse.ArgumentParser) -> None:
     """The words of the command."""
     parser.add_argument("folders", nargs="+", metavar="FOLDER")
-    parser.add_argument("-j", dest="jobs", type=jobs, default=os.cpu_count() or 1, metavar="N", help="so many at a time")
+    parser.add_argument("-j", dest="jobs", type=count, default=os.cpu_count() or 1, metavar="N", help="so many at a time")
+    parser.add_argument("--dask", metavar="ADDRESS", help="hand the proofs to the workers of this Dask scheduler")
     parser.add_argument("--against", metavar="TABLE", help="say what changed since this table was printed")
     parser.add_argument("--seconds", type=seconds, default=20, metavar="N", help="for each leaf and solver (20)")
     parser.add_argument("--json", action="store_true", help="print one object")
@@ -299,20 +334,20 @@ def add_words(parser):
     parser.add_argument("--one", metavar="NAME", help=argparse.SUPPRESS)
 
 
-def run(options):
+def run(options: argparse.Namespace) -> int:
     """Looks at all proofs, or at one, as a process of the crew."""
     signal.signal(signal.SIGTERM, signal.default_int_handler)
     options.dlk = program_of(options.dlk)
     if options.one is not None:
         # Where the whole runs behind a shell's `&`, SIGINT is ignored, by which the crew is ended.
         signal.signal(signal.SIGINT, signal.default_int_handler)
-        print(json.dumps(looked_at(options.one, options.folders[0], options)))
+        print(json.dumps(one(options.one, Path(options.folders[0]), options)))
         return 0
     before = rows_in(options.against) if options.against else None
     proofs = proofs_below(options.folders)
-    if not solvers_there():
+    if not options.dask and not there():
         print("dlkt batch: no solver is there, so no leaf is asked: install z3 or cvc5", file=sys.stderr)
-    rows = Crew(options).rows(proofs)
+    rows = rows_by_dask(proofs, options) if options.dask else Crew(options).rows(proofs)
     told = list(rows) if options.json else print_table(rows)
     changed = changes(before, told) if before is not None else []
     if options.json:

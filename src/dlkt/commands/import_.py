@@ -15,21 +15,22 @@ Lines that say something of a place begin with ARCHIVE:LINE:COLUMN. The exit sta
 """
 
 import argparse
-import importlib.util
 import sys
 from pathlib import Path
 from typing import TYPE_CHECKING
 
-from dlkt.program import Refused, one_line, program_of, read_bytes, seconds
+from dlkt.archive import want_lark
+from dlkt.program import one_line, program_of, seconds
 
 if TYPE_CHECKING:
     from dlkt.archive.folders import Carried
-    from dlkt.archive.models import Model, Read
-    from dlkt.archive.tree import Place
+    from dlkt.archive.models import Model
+    from dlkt.archive.opening import Opened
 
 HELP = "reads archives of KeYmaera X to models"
 EXAMPLE = "dlkt import examples/keymaerax/cruise/archive -d /tmp/cruise"
 READ, NOT_READ = 0, 1
+LEAF_SECONDS = 20
 
 
 def add_words(parser: argparse.ArgumentParser) -> None:
@@ -40,23 +41,8 @@ def add_words(parser: argparse.ArgumentParser) -> None:
     parser.add_argument("--print", action="store_true", help="print the models, and write nothing")
     parser.add_argument("--check", action="store_true", help="compare the definitions with what dlk subst makes of them")
     parser.add_argument("--prove", action="store_true", help="prove each entry, and write its strategy")
-    parser.add_argument("--seconds", type=seconds, default=60, metavar="N", help="for each proof (60)")
+    parser.add_argument("--seconds", type=seconds, default=60, metavar="N", help="for each search (60)")
     parser.add_argument("--dlk", metavar="PROGRAM", help="the program (that of this checkout)")
-
-
-def want_lark() -> None:
-    """Refuses to go on without the package that reads grammars."""
-    if importlib.util.find_spec("lark") is None:
-        raise Refused("the package lark is wanted: apt-get install python3-lark, or pip install lark")
-
-
-def decoded(name: str) -> str:
-    """The text of an archive."""
-    data = read_bytes(name)
-    try:
-        return data.decode("utf-8")
-    except UnicodeDecodeError:
-        return data.decode("latin-1")
 
 
 class Importer:
@@ -66,48 +52,27 @@ class Importer:
         self.options, self.archive, self.status = options, str(options.archive), READ
         self.program = program_of(options.dlk) if options.check or options.prove else ""
 
-    def say(self, place: "Place", text: str) -> None:
-        """Says something of a place."""
-        print(f"{one_line(self.archive)}:{place[0]}:{place[1]}: {one_line(text)}")
-
-    def entries(self) -> list[tuple[str, "Read"]]:
-        """The wanted entries, each with the name of its folder."""
-        from dlkt.archive.folders import stem_of
-        from dlkt.archive.models import models
-        from dlkt.archive.read import WHOLE
-        from dlkt.archive.tree import Refused as NotRead
-
-        try:
-            found = models(decoded(self.archive))
-        except NotRead as fault:
-            raise Refused(f"{self.archive}:{fault.place[0]}:{fault.place[1]}: {fault.reason}") from None
-        taken = set[str]()
-        named = [(stem_of(Path(self.archive).stem if one.entry.kind == WHOLE else one.entry.name, taken), one) for one in found]
-        if self.options.entry is None:
-            return named
-        wanted = [(stem, one) for stem, one in named if one.entry.name == self.options.entry]
-        if not wanted:
-            names = ", ".join(one.entry.name for one in found if one.entry.name)
-            raise Refused(f"{self.archive} has no entry {self.options.entry!r}: its entries are {names}")
-        return wanted
-
-    def entry(self, stem: str, one: "Read") -> None:
+    def entry(self, one: "Opened") -> None:
         """One entry."""
-        if one.model is None:
-            assert one.fault is not None
-            self.say(one.fault.place, f"{one.entry.name}: refused: {one.fault.reason}")
+        from dlkt.archive.opening import line_at, lines_of_hints
+
+        model, fault = one.read.model, one.read.fault
+        if model is None:
+            assert fault is not None
+            print(line_at(self.archive, fault.place, f"{one.read.entry.name}: refused: {fault.reason}"))
             self.status = NOT_READ
             return
-        for place, hint in sorted(one.model.table.hints):
-            self.say(place, f"{one.entry.name}: hint: {hint}")
-        if self.options.check and not self.is_same(one.model):
+        for line in lines_of_hints(self.archive, model) if not self.options.print else ():
+            print(line)
+        if self.options.check and not self.is_same(model):
             self.status = NOT_READ
             return
-        self.write(stem, one.model)
+        self.write(one.stem, model)
 
     def is_same(self, model: "Model") -> bool:
         """Compares the definitions of an entry, and says how that went."""
         from dlkt.archive.agreement import compared
+        from dlkt.archive.opening import line_at
 
         found, name = compared(model, self.program), model.entry.name
         for one in found:
@@ -115,7 +80,7 @@ class Importer:
             if one.same is None:
                 print(f"{name}: check: {one.name} {where} isn't compared: {one_line(one.said)}")
             elif not one.same:
-                self.say(model.entry.place, f"{name}: refused: {one.name} {where} is another thing by dlk subst: {one.said}")
+                print(line_at(self.archive, model.entry.place, f"{name}: refused: {one.name} {where} is another thing by dlk subst: {one.said}"))
         same = sum(one.same is True for one in found)
         print(f"{name}: check: {same} of {len(found)} definitions are put in as dlk subst does it" if found else f"{name}: check: no definitions")
         return all(one.same is not False for one in found)
@@ -123,6 +88,7 @@ class Importer:
     def write(self, stem: str, model: "Model") -> None:
         """Prints or writes what was made of an entry."""
         from dlkt.archive import folders
+        from dlkt.archive.opening import lines_of_tactics
 
         shown = Path(self.archive).name
         files = {"model": folders.model_file(model, shown)}
@@ -135,22 +101,34 @@ class Importer:
         folder = Path(self.options.folder) / stem
         folders.put(folder, files, self.archive)
         print(f"{model.entry.name}: {one_line(str(folder))}: {', '.join(files)}")
-        self.tell_tactics(model, tactics)
+        for line in lines_of_tactics(self.archive, model, tactics):
+            print(line)
+        if self.options.prove:
+            self.prove(model, folder, files["model"], tactics)
 
-    def tell_tactics(self, model: "Model", tactics: list["Carried"]) -> None:
-        """Says what got lost of tactics."""
-        for tactic in tactics:
-            if tactic.fault:
-                self.say(tactic.fault.place, f"{model.entry.name}: tactic {tactic.name!r}: not carried over: {tactic.fault.reason}")
-            for place, note in tactic.sketches.notes if tactic.sketches else ():
-                self.say(place, f"{model.entry.name}: tactic {tactic.name!r}: {note}")
+    def prove(self, model: "Model", folder: Path, text: str, tactics: list["Carried"]) -> None:
+        """Proves an entry, and puts what proves it into its folder."""
+        from dlkt.archive import folders, proving
+        from dlkt.archive.verifying import line_of
+
+        limits = proving.Limits(self.program, self.options.seconds, LEAF_SECONDS)
+        for attempt in proving.attempts(str(folder / "model"), text, tactics, limits):
+            print(line_of(model.entry.name, attempt), flush=True)
+            if attempt.is_verified:
+                head = f"/* by {folders.comment(attempt.how)} */"
+                said = folders.marked("/* ", f" of {folders.comment(Path(self.archive).name)} */", f"{head}\n{attempt.strategy}")
+                folders.put(folder, {"strategy": said}, self.archive)
+                return
+        self.status = NOT_READ
 
 
 def run(options: argparse.Namespace) -> int:
     """Reads an archive."""
     want_lark()
+    from dlkt.archive.opening import opened
+
     importer = Importer(options)
-    for stem, one in importer.entries():
-        importer.entry(stem, one)
+    for one in opened(importer.archive, options.entry):
+        importer.entry(one)
         sys.stdout.flush()
     return importer.status

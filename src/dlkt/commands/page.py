@@ -24,7 +24,8 @@ from dlkt.commands.tree import UNTOLD, Drawing, filled, part, refuse_bad_page, s
 from dlkt.program import Refused, position, program_of, report_of, seconds
 from dlkt.terms import readable, version_of
 from dlkt.typeset import formula, sequent
-from dlkt.commands.verify import GUARD_WHY, VERIFIED, Work, at, counted
+from dlkt.commands.verify import GUARD_WHY, as_object, at, source_of
+from dlkt.verdict import VERIFIED, Fault, Kind, Options, counted, verdict_on
 from dlkt.words import runs_in
 
 # Of how many runs of a word the goals are shown.
@@ -82,30 +83,19 @@ def visits_of(program, model, term, runs):
 
 def found_out(options):
     """What there is to say. Refused where the strategy doesn't end."""
+    program, model, strategy = program_of(options.dlk), source_of(options.model), source_of(options.strategy)
+    verdict = verdict_on(model, strategy, Options(program, options.seconds, waits_for_all=True, kind=Kind.STRATEGY))
+    if isinstance(verdict.found, Fault):
+        place = verdict.found.place
+        raise Refused(f"{at(place)}: {verdict.found.text}" if place else verdict.found.text)
+    term = readable(verdict.term)
     with tempfile.TemporaryDirectory() as folder:
-        work = Work(options, folder)
-        work.prove()
-        told = work.told
-        if told["outcome"] == "refused":
-            place = told["refusal"]["place"]
-            raise Refused(f"{at(place)}: {told['refusal']['text']}" if place else told["refusal"]["text"])
-        for _ in work.ask():
-            pass
-        work.hint()
-        work.conclude()
-        term = readable(work.term.read_bytes())
-        strategy = work.strategy.read_text(encoding="latin-1")
-        runs = runs_in(work.program, work.model, strategy, term) or []
-        return Found(
-            options.title or title_of(options.model),
-            told,
-            work.model.read_bytes(),
-            work.strategy.read_bytes(),
-            work.term.read_bytes(),
-            Path(work.program),
-            runs,
-            visits_of(work.program, work.model, term, runs),
-        )
+        path = Path(folder) / "model"
+        path.write_bytes(model.data)
+        runs = runs_in(program, path, strategy.data.decode("latin-1"), term) or []
+        visits = visits_of(program, path, term, runs)
+    told = {**as_object(verdict), "goals": list(verdict.found.goals)}
+    return Found(options.title or title_of(options.model), told, model.data, strategy.data, verdict.term, Path(program), runs, visits)
 
 
 def title_of(model):

@@ -7,23 +7,23 @@ TERM is a term file of either version, and - is standard input. What is written 
 wrong line, with status 2. OUT is written whole or not at all. An input, or a file with something else than a term, isn't written over.
 """
 
+import argparse
 import sys
 
 from dlkt.program import TERM_BEGINS, put_at, read_bytes, refuse_bad_output
 from dlkt.terms import in_version_1, read
 
-
 HELP = "writes a term as one of version 1, with the formulas in full"
 EXAMPLE = "dlkt readable examples/first/term"
 
 
-def add_words(parser):
+def add_words(parser: argparse.ArgumentParser) -> None:
     """The words of the command."""
     parser.add_argument("term", metavar="TERM")
     parser.add_argument("-o", "--output", metavar="OUT", help="where to write it (standard output)")
 
 
-def run(given):
+def run(given: argparse.Namespace) -> int:
     """Writes the term that the words name."""
     data = sys.stdin.buffer.read() if given.term == "-" else read_bytes(given.term)
     if given.output:

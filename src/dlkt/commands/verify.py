@@ -1,29 +1,34 @@
-"""One verdict on a model and a strategy: proves it, asks the guard and the solvers, and says where it fails and what it rests on.
+"""One verdict on a model and its proof: proves it, asks the guard and the solvers, and says where it fails and what it rests on.
 
-    dlkt verify MODEL STRATEGY [TERM] [--json] [--watch] [--seconds N] [--dlk PROGRAM]
+    dlkt verify FILE PROOF [-o TERM] [-j N] [--all-solvers] [--seconds N] [--json] [--watch] [--dlk PROGRAM]
 
-The term is made in a file of its own, and put at TERM only where the strategy ends, with goals left or without. A TERM that is an input,
-by its name, by a link or by another path, is refused, and so is one that holds something else than a term. No input is ever written.
+FILE is a model, and PROOF a strategy or a term, which its first bytes tell. The term that a strategy makes is put at TERM only where the strategy
+ends, with goals left or without. A TERM that is an input, by its name, by a link or by another path, is refused, and so is one that holds
+something else than a term. No input is ever written.
 
 Printed are, line by line:
 
-    STRATEGY:3:7: fails: NoMatch: ..        where the strategy fails, and why, with the line, a caret, and the goals on which it fails, each
-                                            formula with its place; so, too, where a model or a strategy can't be read
+    PROOF:3:7: fails: NoMatch: ..           where the strategy fails, and why, with the line, a caret, and the goals on which it fails, each
+                                            formula with its place; so, too, where a file can't be read
+    linked: lines 15 to 34 ..               of a term in which lemmas are linked which lines are a lemma's, and what it says
     goal 1                                  each goal that is left, likewise
     leaf 1: x>=0 ==> x+1>=1                 each leaf, and below it what z3 and cvc5 say, those of them that are on PATH: `valid`, `false`
         z3: valid                           with values, `unknown`, or `power` where it has no SMT-LIB text; where it isn't valid also
-                                            which word of the strategy made it
+                                            which word of the strategy made it. The first that knows decides; with --all-solvers all answer
     guarded                                 or the first line that isn't, and the word of the strategy that made it
-    MODEL:1:5: hint: ..                     what looks wrong, and has no influence on the verdict
+    FILE:1:5: hint: ..                      what looks wrong, and has no influence on the verdict
     verified: ..                            last: `verified` where the proof is closed and guarded, and each leaf is valid by a solver
                                             and false by none, with what it rests on; else `not verified`, and why
 
---json prints one object in place of this, --watch does it again at each change of MODEL or STRATEGY, until control-C.
+`dlkt verify ARCHIVE [--entry NAME]` reads an archive of KeYmaera X (docs/KEYMAERAX.md): it prints the model of each entry, proves it by its tactics,
+else by the search, and ends with a verdict a line for each entry. The exit status is the worst of them.
+
+--json prints one object in place of this, --watch does it again at each change of FILE or PROOF, until control-C.
 
 The exit status is
     0   verified
     1   goals are left
-    2   the model or the strategy is refused, or the strategy fails
+    2   the model or the proof is refused, or the strategy fails
     3   closed, and a leaf isn't valid, or wasn't asked, or a line isn't guarded
     4   nothing is known: the words, a file, the program, or TERM
     130 control-C
@@ -31,44 +36,23 @@ The exit status is
 Nothing here is proved but what the program proves: that the proof is closed, and what the guard's line says.
 """
 
+import argparse
 import json
 import os
-import re
 import sys
-import tempfile
 import time
-from concurrent.futures import ThreadPoolExecutor
 from pathlib import Path
+from typing import Any, Callable, Sequence
 
-from dlkt.commands import leaves
-from dlkt import hints as linting
-from dlkt.failing import state_at
-from dlkt.program import (
-    INPUT_REFUSED,
-    TERM_BEGINS,
-    Refused,
-    answer,
-    complaint_of,
-    has_report,
-    numbered,
-    one_line,
-    position,
-    printed_report,
-    program_of,
-    put_at,
-    read_bytes,
-    refusal_in,
-    refuse_bad_output,
-    seconds,
-    shown,
-)
-from dlkt.terms import readable
-from dlkt.words import lines_of, runs_in, words_of_lines
+from dlkt.archive import is_archive, want_lark
+from dlkt.leaves import NOT_ASKED, POWER, WAY_OUT, listed
+from dlkt.program import TERM_BEGINS, Refused, count, numbered, one_line, program_of, put_at, read_bytes, refuse_bad_output, seconds, shown
+from dlkt.verdict import NOTHING_KNOWN, Fault, Guard, Kind, Leaf, Maker, Options, Piece, Proof, Source, Spot, Verdict, counted, is_said_of, verdict_on
 
-VERIFIED, OPEN, REFUSED, NOT_VERIFIED, NOTHING_KNOWN = 0, 1, 2, 3, 4
 MOST_SHOWN = 4  # goals on which a word fails
 LONGEST = 160  # letters of a line that are shown
 PAUSE = 0.3  # seconds between two looks at the files
+SEARCH_SECONDS = 60  # for each search, of an archive's entry
 
 WHY = {
     "NoMatch": "no axiom fits what stands at the place, or not this one",
@@ -103,355 +87,228 @@ GUARD_WHY = {
 }
 
 
-class Work:
-    """What is known of a model and a strategy, as it is found out. It works on copies, so that all commands see the same bytes."""
-
-    def __init__(self, options, folder):
-        self.options, self.program, self.folder = options, program_of(options.dlk), Path(folder)
-        self.names = {"model": options.model, "strategy": options.strategy, "term": options.term}
-        self.old_term = read_bytes(options.term) if options.term and Path(options.term).is_file() else None
-        self.model, self.strategy, self.term = (self.folder / name for name in ("model", "strategy", "term"))
-        for name in ("model", "strategy"):
-            if self.names[name] == "-":
-                raise Refused("standard input isn't taken: name a file")
-            (self.folder / name).write_bytes(read_bytes(self.names[name]))
-        self.told = {"model": options.model, "strategy": options.strategy, "term": None, "outcome": None, "lines": None}
-        self.told |= {"refusal": None, "goals": [], "leaves": [], "solvers": {}, "guard": None, "hints": []}
-
-    def prove(self):
-        """Runs the strategy."""
-        self.take(answer(self.program, "prove", self.model, self.strategy, self.term))
-
-    def take(self, said):
-        """Takes what the program says of the proof. Refused where it is neither a report nor a refusal."""
-        if said.status == INPUT_REFUSED:
-            if not said.text.startswith("refused: "):
-                raise Refused(self.complaint(said))
-            self.told["outcome"], self.told["refusal"] = "refused", self.refused(said.text)
-        elif has_report(said):
-            self.report, found = said.text, printed_report(said)
-            self.told["outcome"] = "closed" if found.is_closed else "open"
-            self.told |= {"lines": found.lines, "goals": found.goals}
-            self.told["leaves"] = [{"leaf": number, "text": text} for number, text in enumerate(found.leaves, 1)]
-        else:
-            raise Refused(self.complaint(said))
-
-    def complaint(self, said):
-        """Why there is no report, without the names of the copies."""
-        return complaint_of(said).replace(f"{self.folder}{os.sep}", "")
-
-    def place(self, file, byte):
-        """Where a byte of an input stands."""
-        found = position(read_bytes(self.folder / file), byte)
-        return {"file": self.names[file], "byte": byte, **found._asdict()}
-
-    def refused(self, text):
-        """What is known of a refusal."""
-        first = text.split("\n", 1)[0].replace(f"{self.folder}{os.sep}", "")
-        refusal = refusal_in(text)
-        told = {"text": first, "file": self.names[file_of_refusal(first)], "place": None, "why": first.removeprefix("refused: ")}
-        told |= {"goals": [], "parts": None, "count": None}
-        if refusal is None:
-            return told
-        told["place"] = self.place("model" if refusal.what == "model" else "strategy", refusal.byte)
-        told["why"] = refusal.why or refusal.what
-        if refusal.what == "fails":
-            state = state_at(self.program, self.model, self.strategy.read_text(encoding="latin-1"), refusal)
-            if state:
-                told |= {"goals": [f"{', '.join(left)} ==> {', '.join(right)}".strip() for left, right in state.goals]}
-                told |= {"parts": state.parts, "count": state.count}
-        return told
-
-    def ask(self):
-        """Asks the guard and the solvers. Each leaf is handed on as it is answered."""
-        with ThreadPoolExecutor(1) as pool:
-            guard = pool.submit(answer, self.program, "guard", self.model, self.term)
-            yield from self.asked_leaves()
-            self.told["guard"] = self.guarded(guard.result())
-
-    def asked_leaves(self):
-        """The leaves with the solvers' answers."""
-        told = self.told["leaves"]
-        solvers = leaves.solvers_there() if told else []
-        self.told["solvers"] = {solver: leaves.version_of(solver) for solver in solvers}
-        if not solvers:
-            for leaf in told:
-                leaf |= {"answer": "not asked", "values": {}, "computed": [], "by": {}, "values_by": {}, "made_by": []}
-            yield from told
-            return
-        texts = [leaf["text"] for leaf in told]
-        answers = leaves.asked(self.program, self.model, self.term, solvers, self.options.seconds, texts=texts)
-        for leaf, said in zip(told, answers):
-            leaf |= said
-            leaf["made_by"] = [] if leaf["answer"] == "valid" else self.makers(leaf["text"])
-            yield leaf
-
-    def makers(self, text):
-        """The words that made a leaf of this text, each with its place."""
-        lines = lines_of(self.term_text())
-        made = [word for line, word in zip(lines, self.words()) if line == ("leaf", text) and word]
-        return [{"word": word, "place": self.place("strategy", byte)} for byte, word in dict.fromkeys(made)]
-
-    def guarded(self, said):
-        """What the guard says; of an unguarded line also which word made it."""
-        if not has_report(said):
-            raise Refused(complaint_of(said))
-        first, _, report = said.text.partition("\n")
-        found = re.fullmatch(r"unguarded line ([1-9]\d*): (.+)", first)
-        if report != self.report or not (found or first == "guarded") or (found and int(found[1]) > self.told["lines"]):
-            raise Refused("guard doesn't print what it should: its word, and the report that was printed before")
-        if not found:
-            return {"text": first, "guarded": True, "line": None, "why": None, "word": None, "place": None}
-        told = {"text": first, "guarded": False, "line": int(found[1]), "why": found[2], "word": None, "place": None}
-        made = self.words()[told["line"] - 1]
-        if made:
-            told |= {"word": made[1], "place": self.place("strategy", made[0])}
-        return told
-
-    def term_text(self):
-        """The term that was made, as one of version 1."""
-        if not hasattr(self, "known_text"):
-            self.known_text = readable(self.term.read_bytes())
-        return self.known_text
-
-    def words(self):
-        """For each line of the term the word that made it, or none."""
-        if not hasattr(self, "known_words"):
-            term = self.term_text()
-            runs = runs_in(self.program, self.model, self.strategy.read_text(encoding="latin-1"), term)
-            self.known_words = words_of_lines(runs, len(lines_of(term)))
-        return self.known_words
-
-    def hint(self):
-        """Looks for what seems wrong."""
-        old = self.old_term
-        guard = self.told["guard"]
-        is_guarded = bool(guard and guard["guarded"])
-        found = linting.hints(self.program, self.model, self.model.read_bytes(), self.strategy.read_bytes(), old, is_guarded)
-        if guard and not is_guarded:
-            told = (guard["place"] or {}).get("byte"), (guard["why"] or "").rpartition(" ")[2]
-            found += linting.of_invariants(lines_of(self.term_text()), self.words(), told)
-        for hint in found:
-            place = self.place(hint.file, hint.byte) if hint.file != "term" else place_in(self.names["term"], old, hint.byte)
-            self.told["hints"].append({"place": place, "text": hint.text})
-
-    def put(self):
-        """Puts the term where it is wanted."""
-        if self.names["term"] and self.told["outcome"] != "refused":
-            put_at(self.term.read_bytes(), self.names["term"])
-            self.told["term"] = self.names["term"]
-
-    def conclude(self):
-        """The verdict, and the exit status."""
-        status, reasons = judged(self.told)
-        self.told |= {"verified": status == VERIFIED, "reasons": reasons, "rests_on": rests_on(self.told) if status == VERIFIED else []}
-        self.told["status"] = status
-        return status
-
-
-def place_in(name, data, byte):
-    """Where a byte of another file stands."""
-    return {"file": name, "byte": byte, **position(data, byte)._asdict()}
-
-
-# The verdict
-
-def counted(number, word):
-    """A number of things."""
-    several = {"leaf": "leaves"}.get(word, word + "s")
-    return f"{number} {word if number == 1 else several}"
-
-
-def is_said_of(leaf):
-    """What is said of a leaf that isn't valid."""
-    return {"power": "has no text for a solver", "not asked": "wasn't asked"}.get(leaf["answer"], f"is {leaf['answer']}")
-
-
-def refused_in_short(text):
-    """What a refusal comes to."""
-    if text.startswith("refused: fails"):
-        return "the strategy fails"
-    if text.startswith("refused: term-too-long"):
-        return "the term would be too long"
-    return f"the {file_of_refusal(text)} is refused"
-
-
-def file_of_refusal(text):
-    """The file that is refused."""
-    return "model" if re.match(r"refused: (too-long )?model\b", text) else "strategy"
-
-
-def judged(told):
-    """The exit status, and what keeps the proof from being verified."""
-    if told["outcome"] == "refused":
-        return REFUSED, [refused_in_short(told["refusal"]["text"])]
-    reasons = [f"{counted(len(told['goals']), 'goal')} left"] if told["goals"] else []
-    for leaf in told["leaves"]:
-        if leaf["answer"] != "valid":
-            reasons.append(f"leaf {leaf['leaf']} {is_said_of(leaf)}")
-    if not told["guard"]["guarded"]:
-        reasons.append(f"line {told['guard']['line']} isn't guarded")
-    return (OPEN if told["goals"] else NOT_VERIFIED if reasons else VERIFIED), reasons
-
-
-def rests_on(told):
-    """What a verdict rests on."""
-    ground = ["dlk", "docs/SOUNDNESS.md (on paper)"]
-    for solver, version in told["solvers"].items():
-        valid = sum(leaf["by"].get(solver) == "valid" for leaf in told["leaves"])
-        if valid:
-            ground.append(f"{solver} {version}".strip() + f" ({valid} of {counted(len(told['leaves']), 'leaf')})")
-    if any(leaf["computed"] for leaf in told["leaves"]):
-        ground.append("dlkt leaves (exponents)")
-    return ground
-
-
-def last_line(told):
-    """The last line."""
-    if not told["verified"]:
-        shown_reasons = told["reasons"][:MOST_SHOWN]
-        more = len(told["reasons"]) - len(shown_reasons)
-        return "not verified: " + "; ".join([*shown_reasons, f"and {more} more"] if more else shown_reasons)
-    leaves_said = f"{counted(len(told['leaves']), 'leaf')} valid" if told["leaves"] else "no leaves"
-    return f"verified: closed, guarded, {leaves_said}. It rests on {', '.join(told['rests_on'])}"
-
-
 # Printing
 
-def at(place):
+def at(place: Spot) -> str:
     """A place as editors read it."""
-    return f"{one_line(place['file'])}:{place['line']}:{place['column']}"
+    return f"{one_line(place.file)}:{place.line}:{place.column}"
 
 
-def underlined(place):
+def underlined(place: Spot) -> list[str]:
     """The line of a place, or the part of a long one round it, and a caret below it."""
-    begin = max(0, place["column"] - LONGEST // 2) if len(place["source"]) > LONGEST else 0
-    return [f"    {place['source'][begin : begin + LONGEST]}", f"    {place['caret'][begin:]}"]
+    begin = max(0, place.column - LONGEST // 2) if len(place.source) > LONGEST else 0
+    return [f"    {place.source[begin : begin + LONGEST]}", f"    {place.caret[begin:]}"]
 
 
-def lines_of_refusal(told):
+def lines_of_fault(fault: Fault) -> list[str]:
     """The lines of a refusal."""
-    place, why = told["place"], told["why"]
-    if place is None:
-        return [f"{one_line(told['file'])}: {told['text']}"]
-    said = f"{why}: {WHY[why]}" if why in WHY else why
-    if told["parts"] is not None:
-        said = f"{why}: the branch has {counted(told['parts'], 'part')}, and there are {counted(told['count'], 'goal')}".replace(
-            "are 1 goal", "is 1 goal"
-        )
-    verb = "fails" if told["text"].startswith("refused: fails") else "refused"
-    lines = [f"{at(place)}: {verb}: {said}", *underlined(place)]
-    several = len(told["goals"]) > 1
-    for number, goal in enumerate(told["goals"][: None if told["parts"] else MOST_SHOWN], 1):
-        met = "it meets" if told["parts"] is not None else "it fails on"
+    if fault.place is None:
+        return [f"{one_line(fault.file)}: {fault.text}"]
+    said = f"{fault.why}: {WHY[fault.why]}" if fault.why in WHY else fault.why
+    if fault.parts is not None and fault.count_of_goals is not None:
+        there = "there is" if fault.count_of_goals == 1 else "there are"
+        said = f"{fault.why}: the branch has {counted(fault.parts, 'part')}, and {there} {counted(fault.count_of_goals, 'goal')}"
+    is_failure = fault.text.startswith("refused: fails")
+    lines = [f"{at(fault.place)}: {'fails' if is_failure else 'refused'}: {said}", *underlined(fault.place)]
+    several = len(fault.goals) > 1
+    met = "it meets" if fault.parts is not None else "it fails on"
+    for number, goal in enumerate(fault.goals[: None if fault.parts else MOST_SHOWN], 1):
         lines += [f"{met} goal {number}:" if several else f"{met} the goal:", *shown(goal)]
-    more = len(told["goals"]) - MOST_SHOWN
-    if told["parts"] is None and more > 0:
+    more = len(fault.goals) - MOST_SHOWN
+    if fault.parts is None and more > 0:
         lines.append(f"and on {counted(more, 'goal')} more")
-    if not told["goals"] and verb == "fails":
+    if not fault.goals and is_failure:
         lines.append("its goals can't be told")
     return lines
 
 
-def lines_of_leaf(leaf):
+def lines_of_proof(proof: Proof) -> list[str]:
+    """The lines of a proof that the program takes: how it ends, the lemmas that are linked in, and the goals that are left."""
+    lines = [f"{proof.outcome}, {counted(proof.lines, 'line')}"]
+    for lemma in proof.lemmas:
+        proved = counted(lemma.goals, "goal")
+        lines.append(f"linked: lines {lemma.first} to {lemma.last} are a lemma's, which proves {proved} with {lemma.conclusion}"[:LONGEST])
+    return [*lines, *(line for number, goal in enumerate(proof.goals, 1) for line in (f"goal {number}", *shown(goal)))]
+
+
+def lines_of_leaf(leaf: Leaf) -> list[str]:
     """The lines of a leaf."""
-    lines = [f"leaf {leaf['leaf']}: {leaf['text']}"]
-    for solver, word in leaf["by"].items():
-        values = leaves.listed(leaf["values_by"].get(solver, {}))
+    said, lines = leaf.said, [f"leaf {leaf.number}: {leaf.text}"]
+    for solver, word in said.by.items():
+        values = listed(said.values_by.get(solver, {}))
         lines.append(f"    {solver}: {word}" + (f" at {values}" if values else ""))
-    if leaf["answer"] == "power":
-        lines.append(f"    power: {leaves.WAY_OUT}")
-    if leaf["answer"] == "not asked":
+    if said.word == POWER:
+        lines.append(f"    power: {WAY_OUT}")
+    if said.word == NOT_ASKED:
         lines.append("    not asked: no solver is there; install z3 or cvc5")
-    if leaf["computed"]:
-        lines.append("    with " + ", ".join(f"{new} for {old}" for old, new in leaf["computed"]))
-    for made in leaf["made_by"]:
-        lines.append(f"{at(made['place'])}: leaf {leaf['leaf']} {is_said_of(leaf)}: {made['word']} made it")
+    if said.computed:
+        lines.append("    with " + ", ".join(f"{new} for {old}" for old, new in said.computed))
+    return lines + [f"{at(made.place)}: leaf {leaf.number} {is_said_of(leaf)}: {made.word} made it" for made in leaf.made_by]
+
+
+def lines_of_guard(guard: Guard) -> list[str]:
+    """The lines of what the guard says."""
+    if guard.is_guarded:
+        return ["guarded"]
+    said = GUARD_WHY.get((guard.why or "").split(" ")[0], "")
+    lines = [guard.text + (f": {said}" if said else "")]
+    if guard.made_by:
+        place = guard.made_by.place
+        return [*lines, f"{at(place)}: unguarded: {guard.made_by.word} made line {guard.line}", *underlined(place)]
     return lines
 
 
-def lines_of_guard(guard):
-    """The lines of what the guard says."""
-    if guard["guarded"]:
-        return ["guarded"]
-    said = GUARD_WHY.get(guard["why"].split(" ")[0], "")
-    lines = [guard["text"] + (f": {said}" if said else "")]
-    if guard["place"]:
-        return [*lines, f"{at(guard['place'])}: unguarded: {guard['word']} made line {guard['line']}", *underlined(guard["place"])]
-    return [*lines, f"    which word of the strategy made line {guard['line']} isn't known"]
+def lines_of(piece: Piece) -> list[str]:
+    """The lines of what was found."""
+    if isinstance(piece, Proof):
+        return lines_of_proof(piece)
+    if isinstance(piece, Fault):
+        return lines_of_fault(piece)
+    if isinstance(piece, Leaf):
+        return lines_of_leaf(piece)
+    if isinstance(piece, Guard):
+        return lines_of_guard(piece)
+    return [f"{at(piece.place)}: hint: {piece.text}"]
 
 
-def lines_of_goals(goals):
-    """The lines of the goals that are left."""
-    return [line for number, goal in enumerate(goals, 1) for line in (f"goal {number}", *shown(goal))]
+def last_line(verdict: Verdict) -> str:
+    """The last line."""
+    if not verdict.is_verified:
+        reasons = list(verdict.reasons[:MOST_SHOWN])
+        more = len(verdict.reasons) - len(reasons)
+        return "not verified: " + "; ".join([*reasons, f"and {more} more"] if more else reasons)
+    leaves_said = f"{counted(len(verdict.leaves), 'leaf')} valid" if verdict.leaves else "no leaves"
+    return f"verified: closed, guarded, {leaves_said}. It rests on {', '.join(verdict.rests_on)}"
 
 
-def lines_of_hints(hints):
-    """The lines of hints."""
-    return [f"{at(hint['place'])}: hint: {hint['text']}" for hint in hints]
+def lines_of_verdict(verdict: Verdict) -> list[str]:
+    """All lines of a verdict."""
+    pieces: list[Piece] = [verdict.found, *verdict.leaves, *([verdict.guard] if verdict.guard else []), *verdict.hints]
+    return [*(line for piece in pieces for line in lines_of(piece)), last_line(verdict)]
 
 
-def told_object(told):
-    """What --json prints: as it was found, with the formulas of goals by their places."""
-    def by_place(goal):
-        left, right = numbered(goal)
-        return {"text": goal, "formulas": [{"place": place, "formula": formula} for place, formula in [*left, *right]]}
+# The object that --json prints
 
-    told = {**told, "goals": [by_place(goal) for goal in told["goals"]]}
-    if told["refusal"]:
-        told["refusal"] = {**told["refusal"], "goals": [by_place(goal) for goal in told["refusal"]["goals"]]}
-    return told
+def goal_object(goal: str) -> dict[str, Any]:
+    """A goal, with its formulas by their places."""
+    left, right = numbered(goal)
+    return {"text": goal, "formulas": [{"place": place, "formula": formula} for place, formula in [*left, *right]]}
 
 
-def verdict_on(options, say):
-    """Finds out everything, and says it line by line. What was found, and the exit status."""
-    with tempfile.TemporaryDirectory() as folder:
-        work = Work(options, folder)
-        told = work.told
-        work.prove()
-        work.put()
-        if told["outcome"] == "refused":
-            say(lines_of_refusal(told["refusal"]))
-        else:
-            say([f"{told['outcome']}, {counted(told['lines'], 'line')}", *lines_of_goals(told["goals"])])
-            for leaf in work.ask():
-                say(lines_of_leaf(leaf))
-            say(lines_of_guard(told["guard"]))
-        work.hint()
-        say(lines_of_hints(told["hints"]))
-        status = work.conclude()
-        say([last_line(told)])
-        return told, status
+def place_object(place: Spot | None) -> dict[str, Any] | None:
+    """A place."""
+    return place._asdict() if place else None
 
 
-def say_lines(lines):
+def maker_object(made: Maker) -> dict[str, Any]:
+    """A word that made something."""
+    return {"word": made.word, "place": place_object(made.place)}
+
+
+def leaf_object(leaf: Leaf) -> dict[str, Any]:
+    """A leaf."""
+    said = leaf.said
+    told = {"leaf": leaf.number, "text": leaf.text, "answer": said.word, "values": said.values, "computed": said.computed}
+    return {**told, "by": said.by, "values_by": said.values_by, "made_by": [maker_object(made) for made in leaf.made_by]}
+
+
+def fault_object(fault: Fault) -> dict[str, Any]:
+    """A refusal."""
+    goals = [goal_object(goal) for goal in fault.goals]
+    told = {"text": fault.text, "file": fault.file, "place": place_object(fault.place), "why": fault.why, "goals": goals}
+    return {**told, "parts": fault.parts, "count": fault.count_of_goals}
+
+
+def guard_object(guard: Guard) -> dict[str, Any]:
+    """What the guard says."""
+    made = maker_object(guard.made_by) if guard.made_by else {"word": None, "place": None}
+    return {"text": guard.text, "guarded": guard.is_guarded, "line": guard.line, "why": guard.why, **made}
+
+
+def as_object(verdict: Verdict, put: str | None = None) -> dict[str, Any]:
+    """A verdict as one object, with the name at which the term was put."""
+    found, strategy = verdict.found, verdict.proof.name if verdict.kind is Kind.STRATEGY else None
+    proof, fault = (found, None) if isinstance(found, Proof) else (None, found)
+    return {
+        "model": verdict.model.name, "proof": verdict.proof.name, "kind": verdict.kind, "strategy": strategy, "term": put,
+        "outcome": verdict.outcome, "refusal": fault_object(fault) if fault else None,
+        "lines": proof.lines if proof else None,
+        "goals": [goal_object(goal) for goal in proof.goals] if proof else [],
+        "linked": [lemma._asdict() for lemma in proof.lemmas] if proof else [],
+        "leaves": [leaf_object(leaf) for leaf in verdict.leaves], "solvers": verdict.solvers,
+        "guard": guard_object(verdict.guard) if verdict.guard else None,
+        "hints": [{"place": place_object(hint.place), "text": hint.text} for hint in verdict.hints],
+        "verified": verdict.is_verified, "reasons": verdict.reasons, "rests_on": verdict.rests_on, "status": verdict.status,
+    }
+
+
+# The command
+
+def say_lines(lines: Sequence[str]) -> None:
     """Prints lines at once."""
     for line in lines:
         print(line)
     sys.stdout.flush()
 
 
-def once(options):
+def source_of(name: str) -> Source:
+    """The bytes of a file."""
+    if name == "-":
+        raise Refused("standard input isn't taken: name a file")
+    return Source(name, read_bytes(name))
+
+
+def put_term(verdict: Verdict, name: str | None) -> str | None:
+    """Puts the term where it is wanted, where there is one; the name of it."""
+    if name is None or not verdict.term:
+        return None
+    put_at(verdict.term, name)
+    return name
+
+
+def options_of(options: argparse.Namespace) -> Options:
+    """How the verdict is found. Refused is a TERM that is an input, or has something else than a term in it."""
+    program, old = program_of(options.dlk), None
+    if options.output is not None:
+        refuse_bad_output(options.output, (options.file, options.proof, program), TERM_BEGINS, "a term")
+        old = source_of(options.output) if Path(options.output).is_file() else None
+    return Options(program, options.seconds, options.jobs, options.all_solvers, old_term=old)
+
+
+def once(options: argparse.Namespace) -> int:
     """One verdict, printed. The exit status."""
-    told, status = verdict_on(options, (lambda lines: None) if options.json else say_lines)
+    if options.proof is None:
+        return on_archive(options)
+    say: Callable[[Piece], None] = (lambda piece: None) if options.json else (lambda piece: say_lines(lines_of(piece)))
+    verdict = verdict_on(source_of(options.file), source_of(options.proof), options_of(options), say)
+    put = put_term(verdict, options.output)
     if options.json:
-        print(json.dumps(told_object(told)), flush=True)
-    return status
+        print(json.dumps(as_object(verdict, put)), flush=True)
+    else:
+        say_lines([last_line(verdict)])
+    return verdict.status
 
 
-# The file of the term
+def on_archive(options: argparse.Namespace) -> int:
+    """The verdicts on the entries of an archive, printed. The exit status."""
+    if not is_archive(options.file, source_of(options.file).data):
+        raise Refused("no PROOF is named: a strategy, or a term")
+    if options.output is not None:
+        raise Refused("the entries of an archive have no TERM: dlkt import --prove writes their strategies")
+    want_lark()
+    from dlkt.archive import proving, verifying  # they need the package lark
 
-def refuse_bad_term(options):
-    """Refuses a TERM that is an input, or has something else than a term in it."""
-    target = options.term
-    if target is None:
-        return
-    refuse_bad_output(target, (options.model, options.strategy, program_of(options.dlk)), TERM_BEGINS, "a term")
+    limits = proving.Limits(program_of(options.dlk), SEARCH_SECONDS, options.seconds)
+    found = verifying.verdicts_on(options.file, options.entry, limits, (lambda lines: None) if options.json else say_lines)
+    if options.json:
+        told = [(one, {"entry": one.name, "status": one.status, "said": one.line}) for one in found]
+        print(json.dumps([{**object, "verdict": as_object(one.verdict, None) if one.verdict else None} for one, object in told]), flush=True)
+    else:
+        say_lines([one.line for one in found])
+    return verifying.worst(found)
 
 
-# Watching
-
-def stamp(name):
+def stamp(name: str) -> tuple[int, ...] | None:
     """What changes where a file does."""
     try:
         state = os.stat(name)
@@ -460,61 +317,56 @@ def stamp(name):
         return None
 
 
-def watch(options):
+def watch(options: argparse.Namespace) -> int:
     """A verdict at each change, until control-C."""
     seen = None
     while True:
-        now = stamp(options.model), stamp(options.strategy)
+        now = stamp(options.file), stamp(options.proof or options.file)
         if now == seen:
             time.sleep(PAUSE)
             continue
         if seen is not None and not options.json:
             print(f"\n--- {time.strftime('%H:%M:%S')}", flush=True)
         seen = now
-        try:
-            refuse_bad_term(options)
-            once(options)
-        except BrokenPipeError:
-            raise
-        except (OSError, Refused) as why:
-            tell_refusal(options, why)
+        known(options)
 
 
-def tell_refusal(options, why):
-    """Says why nothing is known."""
-    if isinstance(why, OSError):
-        place = f"{why.filename}: " if why.filename else ""
-        why = f"{place}{(why.strerror or str(why)).lower()}"
-    print(f"dlkt verify: {one_line(str(why))}", file=sys.stderr, flush=True)
+def known(options: argparse.Namespace) -> int:
+    """One verdict, or why nothing is known. The exit status."""
+    try:
+        return once(options)
+    except BrokenPipeError:
+        raise
+    except OSError as fault:
+        why = f"{fault.filename}: " if fault.filename else ""
+        why += (fault.strerror or str(fault)).lower()
+    except Refused as refused:
+        why = str(refused)
+    print(f"dlkt verify: {one_line(why)}", file=sys.stderr, flush=True)
     if options.json:
-        told = {"model": options.model, "strategy": options.strategy, "verified": False, "outcome": None, "reasons": [str(why)]}
-        print(json.dumps({**told, "status": NOTHING_KNOWN}), flush=True)
+        told = {"model": options.file, "proof": options.proof, "verified": False, "outcome": None, "reasons": [why], "status": NOTHING_KNOWN}
+        print(json.dumps(told), flush=True)
+    return NOTHING_KNOWN
 
 
 HELP = "one verdict on a model and its proof"
 EXAMPLE = "dlkt verify examples/tutorial/car/model examples/tutorial/car/strategy"
 
 
-def add_words(parser):
+def add_words(parser: argparse.ArgumentParser) -> None:
     """The words of the command."""
-    parser.add_argument("model", metavar="MODEL")
-    parser.add_argument("strategy", metavar="STRATEGY")
-    parser.add_argument("term", metavar="TERM", nargs="?", help="where to put the term")
-    parser.add_argument("--json", action="store_true", help="print one object")
-    parser.add_argument("--watch", action="store_true", help="again at each change of MODEL or STRATEGY, until control-C")
+    parser.add_argument("file", metavar="FILE", help="a model, or an archive of KeYmaera X")
+    parser.add_argument("proof", metavar="PROOF", nargs="?", help="a strategy, or a term; none for an archive")
+    parser.add_argument("--entry", metavar="NAME", help="of an archive, this entry alone")
+    parser.add_argument("-o", "--output", metavar="TERM", help="where to put the term")
+    parser.add_argument("-j", dest="jobs", type=count, default=os.cpu_count() or 1, metavar="N", help="so many leaves at a time")
+    parser.add_argument("--all-solvers", action="store_true", help="wait for each solver, and print what it says")
     parser.add_argument("--seconds", type=seconds, default=20, metavar="N", help="for each leaf and solver (20)")
+    parser.add_argument("--json", action="store_true", help="print one object")
+    parser.add_argument("--watch", action="store_true", help="again at each change of FILE or PROOF, until control-C")
     parser.add_argument("--dlk", metavar="PROGRAM", help="the program (that of this checkout)")
 
 
-def run(options):
+def run(options: argparse.Namespace) -> int:
     """One verdict, or one at each change."""
-    if options.watch:
-        return watch(options)
-    try:
-        refuse_bad_term(options)
-        return once(options)
-    except BrokenPipeError:
-        raise
-    except (OSError, Refused) as why:
-        tell_refusal(options, why)
-    return NOTHING_KNOWN
+    return watch(options) if options.watch else known(options)

@@ -10,7 +10,7 @@ from itertools import islice
 from typing import NamedTuple
 
 from dlkt.formulas import (
-    NotPolynomial, ONE, TRUE, ZERO, Polynomial, bound, division, free, is_arithmetic, make, normal_form, polynomial, substituted, subtracted, term_of,
+    NotPolynomial, ONE, TRUE, ZERO, Polynomial, bound, division, free, is_arithmetic, make, normal_form, number, polynomial, substituted, subtracted, term_of,
     text, unique, variable,
 )
 from dlkt.search.context import OutOfWork, Search
@@ -172,7 +172,7 @@ class Simulation:
 def cut_down(formula: Tree, way: list[Turn], place: int) -> str:
     """Words that close `A, [a]Q ==> [s1]..[sk]Q` for a way through a, where the box is the last of so many formulas on the left."""
     words = []
-    for number, (kind, what) in enumerate(way):
+    for turn, (kind, what) in enumerate(way):
         program, post = formula.kids
         if kind == "seq":
             words.append(f"useAt(composeb,-{place})")
@@ -185,7 +185,7 @@ def cut_down(formula: Tree, way: list[Turn], place: int) -> str:
             words.append(seq(f"useAt(iterateb,-{place})", f"andL(-{place})", f"hideL(-{place + 1 if kind == 'stop' else place})"))
             formula = post if kind == "stop" else make("box", "", program.kids[0], make("box", "", program, post))
         else:
-            return seq(*words, f"boxCut({quoted(post)},1)", branch("close", cut_down(post, way[number + 1:], 1)))
+            return seq(*words, f"boxCut({quoted(post)},1)", branch("close", cut_down(post, way[turn + 1:], 1)))
     return seq(*words, "close")
 
 
@@ -303,7 +303,8 @@ def by_time(search: Search, goal: Goal) -> str | None:
     for one, other in (post.kids, post.kids[::-1]):
         if one is variable(name) and name not in free(other):
             gap = subtracted(other, one)
-            ends += [make("div", "", gap, rise), make("div", "", make("add", "", gap, ONE), rise)]
+            beyond = make("add", "", make("pow", "", gap, number(2)), ONE)  # further than the gap, whichever sign that has
+            ends += [make("div", "", end, rise) for end in (gap, make("add", "", gap, ONE), beyond, make("neg", "", beyond))]
     for time in [ZERO, *ends]:
         words = seq("step(1)", "notR(1)", f"useAt(DS,-{place})", f"useAt(assignb,-{place}.0.1.1)", f'useAt(allinst,-{place},"f()~>{text(time)}")')
         try:

@@ -10,6 +10,7 @@ from typing import NamedTuple
 
 from dlkt.formulas import NoSmt, ZERO, free_of_all, has_quantifier, make, smt, smt_name
 from dlkt.program import Refused
+from dlkt.search.points import Points
 from dlkt.solvers import Solvers, Word, there
 from dlkt.trees import Tree
 
@@ -36,7 +37,7 @@ class Solver:
             raise Refused("the search needs the solver z3, which isn't there: apt-get install z3")
         self.seconds, self.end, self.asked, self.work = seconds, end, 0, 0
         self.known: dict[tuple[frozenset[Tree], Tree], Verdict] = {}
-        self.solvers = Solvers([NAME])
+        self.solvers, self.points = Solvers([NAME]), Points()
         self.is_silent = False
 
     def stop(self) -> None:
@@ -87,7 +88,13 @@ class Solver:
                 return plain
             if seconds < 1.5:
                 return Verdict(UNKNOWN, {}, seconds)
+        names = sorted(free_of_all([*left, right]))
+        known = self.points.against(left, right, names)
+        if known is not None:
+            return Verdict(FALSE, known, seconds)
         said, values = self.satisfied([*left, make("not", "", right)], seconds)
+        if said is FALSE:
+            self.points.add(values)
         return Verdict(said, values, seconds)
 
     def holds(self, left: Facts, right: Tree, seconds: float | None = None) -> bool:
