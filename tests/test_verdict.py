@@ -266,7 +266,7 @@ class Mended(Verdict):
         said = self.said(INCREMENT, 'implyR(1);\n  cut("(x>=0 & x>1"); close')
         self.assertIn("strategy:2:19: refused: arguments: the text in quotes doesn't go on here (syntax); the ( at 2:8 has no other one", said)
         said = self.said(INCREMENT, 'useAt(DC,1,"r(||)~>x>=0)&x>1")')
-        self.assertIn("strategy:1:25: refused: arguments: the text in quotes doesn't go on here (syntax); the ) at 1:25 has no other one", said)
+        self.assertIn("strategy:1:24: refused: arguments: the text in quotes doesn't go on here (syntax); the ) at 1:24 has no other one", said)
         self.assertIn("strategy:1:1: refused: arguments: the word takes other arguments", self.said(INCREMENT, "implyR(x)"))
 
     def test_what_people_write(self):
