@@ -329,8 +329,8 @@ class Errors(Verdict):
     def test_one_line_each(self):
         model, strategy = self.file("model", INCREMENT), self.file("strategy", CLOSES_INCREMENT)
         (self.folder / "folder").mkdir()
-        for words in (("nope", strategy), (model, "nope"), ("folder", strategy), (model, "folder"), (model, strategy, "-o", "folder"), (model, strategy, "-o", "nope/term"), (model,),
-                      ("-", strategy), (model, strategy, "--dlk", "/nope"), (model, strategy, "--dlk", model)):
+        for words in (("nope", strategy), (model, "nope"), ("folder", strategy), (model, "folder"), (model, strategy, "-o", "folder"),
+                      (model, strategy, "-o", "nope/term"), (model,), ("-", strategy), (model, strategy, "--dlk", "/nope"), (model, strategy, "--dlk", model)):
             run = self.tool("verify", *words)
             self.assertEqual((run.returncode, run.stdout, run.stderr.count("\n")), (4, "", 1), words)
 

@@ -27,6 +27,7 @@ import argparse
 import contextlib
 import importlib
 import json
+import logging
 import os
 import signal
 import subprocess
@@ -224,6 +225,7 @@ def rows_by_dask(proofs: Sequence[Named], options: argparse.Namespace) -> Iterat
         distributed = importlib.import_module("distributed")
     except ImportError as fault:
         raise Refused("--dask wants Dask's scheduler: apt-get install python3-distributed") from fault
+    logging.getLogger("distributed").setLevel(logging.ERROR)  # that a worker is lost, and its tasks are done again, is no complaint
     try:
         client = distributed.Client(options.dask, timeout=f"{PATIENCE}s", set_as_default=False)
     except (OSError, ValueError) as fault:
