@@ -49,11 +49,13 @@ class Word(StrEnum):
 
 
 class Reply(NamedTuple):
-    """What one solver says of a question: a word; where it is false the values by which it is; and of an unknown one why, where that is known."""
+    """What one solver says of a question: a word; where it is false the values by which it is; of an unknown one why, where that is known; and
+    how many steps it took, where the solver counts them."""
 
     word: Word
     values: Mapping[str, str] = {}
     why: str = ""
+    steps: int = 0
 
 
 class Answer(NamedTuple):
@@ -65,14 +67,15 @@ class Answer(NamedTuple):
 
 
 class Kind(NamedTuple):
-    """How a solver is started, and how it is told its time, in milliseconds."""
+    """How a solver is started, how it is told its time, in milliseconds, and how it is asked for the steps that it took."""
 
     command: tuple[str, ...]
     options: str
+    measure: str = ""
 
 
 KINDS = {
-    "z3": Kind(("z3", "-in"), "(set-option :timeout {})\n(set-option :pp.decimal true)\n"),
+    "z3": Kind(("z3", "-in", "-memory:4000"), "(set-option :timeout {})\n(set-option :pp.decimal true)\n", "(get-info :rlimit)\n"),
     "cvc5": Kind(("cvc5", "--lang=smt2", "--produce-models"), "(set-option :tlimit-per {})\n"),
 }
 
@@ -202,6 +205,7 @@ class Talk:
         self.tries, self.waits_for, self.deadline = 0, "", begin
         self.unsent, self.said, self.mark = b"", b"", b""
         self.reply: Reply | None = None
+        self.steps = 0
 
     def send(self, script: str, waits_for: str, seconds: float) -> None:
         """Has this script sent, up to a mark of its own, to be answered in time."""
@@ -258,15 +262,22 @@ class Talk:
         first = said.split("\n", 1)[0].strip()
         if self.waits_for == "taking":
             logic = "" if "(set-logic" in self.text else "(set-logic ALL)\n"
-            self.send(f"{logic}{self.text}\n(check-sat)\n", "answer", self.seconds)
+            self.send(f"{logic}{self.text}\n(check-sat)\n{self.process.kind.measure}", "answer", self.seconds)
         elif self.waits_for == "values":
-            self.reply = Reply(Word.FALSE, values_in(said))
-        elif first == "unsat":
-            self.reply = Reply(Word.VALID)
+            self.reply = Reply(Word.FALSE, values_in(said), steps=self.steps)
+        else:
+            counted = re.search(r"^\(:rlimit (\d+)\)$", said, re.MULTILINE)
+            self.steps = int(counted[1]) if counted else 0
+            self.answered(first)
+
+    def answered(self, first: str) -> None:
+        """The solver has said this of the question."""
+        if first == "unsat":
+            self.reply = Reply(Word.VALID, steps=self.steps)
         elif first == "sat":
             self.send("(get-model)\n", "values", PATIENCE)
         else:
-            self.reply = Reply(Word.UNKNOWN, why="" if first == "unknown" else printable(first))
+            self.reply = Reply(Word.UNKNOWN, why="" if first == "unknown" else printable(first), steps=self.steps)
 
     def died(self) -> None:
         """The process ended, or doesn't take the question: it is asked once more."""
