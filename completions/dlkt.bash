@@ -4,22 +4,22 @@ _dlkt() {
   local word=${COMP_WORDS[COMP_CWORD]} options=
   COMPREPLY=()
   if [ "$COMP_CWORD" -eq 1 ]; then
-    mapfile -t COMPREPLY < <(compgen -W 'verify auto batch leaves page print tree prompt readable refute words import lsp --version --help' -- "$word")
+    mapfile -t COMPREPLY < <(compgen -W 'verify auto refute import batch leaves page tree prompt print readable words lsp --version --help' -- "$word")
     return
   fi
   case ${COMP_WORDS[1]} in
-    verify) options='-h --help --json --watch --seconds --dlk' ;;
+    verify) options='-h --help --entry -o --output -j --all-solvers --seconds --json --watch --dlk' ;;
     auto) options='-h --help -o --output --sketch --term --partial --explain --seconds --annotations --dlk' ;;
-    batch) options='-h --help -j --against --seconds --json --dlk' ;;
-    leaves) options='-h --help --both --seconds --json --dlk' ;;
-    page) options='-h --help -o --output --title --seconds --dlk' ;;
-    print) options='-h --help --width' ;;
-    tree) options='-h --help --model --strategy --depth --dlk' ;;
-    prompt) options='-h --help --dlk' ;;
-    readable) options='-h --help -o --output' ;;
     refute) options='-h --help --rounds --seconds --json --plot --seed' ;;
-    words) options='-h --help --dlk' ;;
     import) options='-h --help -d --folder --entry --print --check --prove --seconds --dlk' ;;
+    batch) options='-h --help -j --dask --against --seconds --json --dlk' ;;
+    leaves) options='-h --help --all-solvers -j --seconds --json --dlk' ;;
+    page) options='-h --help -o --output --title --seconds --dlk' ;;
+    tree) options='-h --help --model --strategy --depth --dlk' ;;
+    prompt) options='-h --help --seconds --dlk' ;;
+    print) options='-h --help --width' ;;
+    readable) options='-h --help -o --output' ;;
+    words) options='-h --help --dlk' ;;
     lsp) options='-h --help --seconds --stdio --dlk' ;;
   esac
   case $word in

@@ -169,7 +169,7 @@ class Dask(Batch):
         super().setUp()
         warnings.simplefilter("ignore")
         self.enterContext(mock.patch.dict(os.environ, self.environment()))
-        self.options = SimpleNamespace(dask=None, dlk=helping.PROGRAM, seconds=20, jobs=2)
+        self.options = SimpleNamespace(dlk=helping.PROGRAM, seconds=20, jobs=2)
 
     def test_the_same_rows_in_order(self):
         import distributed
@@ -179,16 +179,14 @@ class Dask(Batch):
         (self.proofs / "dangling" / "strategy").symlink_to("nowhere")
         proofs = batch.proofs_below([str(self.proofs)])
         with distributed.LocalCluster(n_workers=2, threads_per_worker=1, processes=False, dashboard_address=None) as cluster:
-            self.options.dask = cluster.scheduler_address
-            rows = list(batch.rows_by_dask(proofs, self.options))
+            rows = list(batch.rows_by_dask(batch.client_of(cluster.scheduler_address), proofs, self.options))
         alone = list(batch.Crew(self.options).rows(proofs))
         self.assertEqual([row._replace(seconds="") for row in rows], [row._replace(seconds="") for row in alone])
         self.assertEqual([row.verdict for row in rows].count("verified"), 2)
 
     def test_no_scheduler(self):
-        self.options.dask = "tcp://127.0.0.1:9"
         with mock.patch.object(batch, "PATIENCE", 1), self.assertRaises(Refused) as fault:
-            list(batch.rows_by_dask([], self.options))
+            batch.client_of("tcp://127.0.0.1:9")
         self.assertEqual(str(fault.exception), "no Dask scheduler answers at tcp://127.0.0.1:9")
 
 
