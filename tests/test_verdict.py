@@ -427,5 +427,23 @@ class Watching(Verdict):
             self.assertEqual((process.returncode, said.rstrip("\n").split("\n")[-1]), (130, "dlkt verify: interrupted"))
 
 
+@needs_program
+class Interrupted(Verdict):
+    def test_control_c_ends_the_solvers_too(self):
+        asked = self.folder / "asked"
+        self.script_of_solver("z3", f"[ \"$1\" = --version ] && echo 1.0 && exit\necho $$ >> {asked}; exec /bin/sleep 60\n")
+        model, strategy = self.file("model", INCREMENT), self.file("strategy", CLOSES_INCREMENT)
+        with self.started("verify", model, strategy) as process:
+            for _ in range(600):
+                if asked.exists() and asked.read_text().endswith("\n"):
+                    break
+                time.sleep(0.1)
+            process.send_signal(signal.SIGINT)
+            _, said = process.communicate(timeout=20)
+        self.assertEqual((process.returncode, said), (130, "dlkt verify: interrupted\n"))
+        for solver in map(int, asked.read_text().split()):
+            self.assertRaises(ProcessLookupError, os.kill, solver, 0)
+
+
 if __name__ == "__main__":
     unittest.main()

@@ -14,7 +14,7 @@ from dlkt.solvers import Solvers, Word
 from dlkt.strategies import Atom, Part
 from dlkt.trees import Tree, Trees, text as text_of
 
-MOST_SECONDS = 5.0  # for the question whether assumptions contradict each other
+MOST_SECONDS = 2.0  # for the question whether assumptions contradict each other
 MARK_OF_ORDER = b"\xef\xbb\xbf"
 COMMENT = re.compile(rb"/\*.*?\*/|//[^\n]*", re.DOTALL)
 TOKEN = re.compile(r"\\?[A-Za-z][A-Za-z0-9_]*")
