@@ -329,8 +329,8 @@ class Errors(Verdict):
     def test_one_line_each(self):
         model, strategy = self.file("model", INCREMENT), self.file("strategy", CLOSES_INCREMENT)
         (self.folder / "folder").mkdir()
-        for words in (("nope", strategy), (model, "nope"), ("folder", strategy), (model, "folder"), (model, strategy, "-o", "folder"), (model, strategy, "-o", "nope/term"), (model,),
-                      ("-", strategy), (model, strategy, "--dlk", "/nope"), (model, strategy, "--dlk", model)):
+        for words in (("nope", strategy), (model, "nope"), ("folder", strategy), (model, "folder"), (model, strategy, "-o", "folder"),
+                      (model, strategy, "-o", "nope/term"), (model,), ("-", strategy), (model, strategy, "--dlk", "/nope"), (model, strategy, "--dlk", model)):
             run = self.tool("verify", *words)
             self.assertEqual((run.returncode, run.stdout, run.stderr.count("\n")), (4, "", 1), words)
 
@@ -425,6 +425,24 @@ class Watching(Verdict):
             process.send_signal(signal.SIGINT)
             _, said = process.communicate(timeout=20)
             self.assertEqual((process.returncode, said.rstrip("\n").split("\n")[-1]), (130, "dlkt verify: interrupted"))
+
+
+@needs_program
+class Interrupted(Verdict):
+    def test_control_c_ends_the_solvers_too(self):
+        asked = self.folder / "asked"
+        self.script_of_solver("z3", f"[ \"$1\" = --version ] && echo 1.0 && exit\necho $$ >> {asked}; exec /bin/sleep 60\n")
+        model, strategy = self.file("model", INCREMENT), self.file("strategy", CLOSES_INCREMENT)
+        with self.started("verify", model, strategy) as process:
+            for _ in range(600):
+                if asked.exists() and asked.read_text().endswith("\n"):
+                    break
+                time.sleep(0.1)
+            process.send_signal(signal.SIGINT)
+            _, said = process.communicate(timeout=20)
+        self.assertEqual((process.returncode, said), (130, "dlkt verify: interrupted\n"))
+        for solver in map(int, asked.read_text().split()):
+            self.assertRaises(ProcessLookupError, os.kill, solver, 0)
 
 
 if __name__ == "__main__":

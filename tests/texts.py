@@ -6,8 +6,10 @@ NAMES = ["x", "y", "v", "x1", "a_b", "term", "Tall"]
 CONSTANTS = ["A", "f", "true1"]
 NUMBERS = ["0", "1", "2", "007", "1.50", "0.0", "3.14159", "12345678901234567890"]
 BLANKS = ["", "", "", " ", "  ", "\n", "\t", "\r\n", "/* x>0 */", "// no )\n", " /**/ "]
-PIECES = ["(", ")", "[", "]", "{", "}", "<", ">", "&", "|", "->", "<->", "=", "!=", "+", "-", "*", "/", "^", "'", "?", ";", ",", ":=", "++", "==>", "~>", "_", "._3", "._8",
-          "true", "false", "x", "f(x)", "p(||)", "1.", ".5", "\\forall", "\\exists x", "@invariant(", "(|", "|)", "{|", "|}", "/*", "#", "\xe4", "\x00", "!", "x'"]
+PIECES = [
+    *"()[]{}<>&|=+-*/^'?;,_#!\xe4\x00", "->", "<->", "!=", ":=", "++", "==>", "~>", "._3", "._8", "true", "false", "x", "f(x)", "p(||)", "1.", ".5", "\\forall",
+    "\\exists x", "@invariant(", "(|", "|)", "{|", "|}", "/*", "x'",
+]
 
 
 class Maker:
@@ -27,8 +29,10 @@ class Maker:
     def term(self, depth):
         """A term."""
         if depth <= 0 or self.random.random() < 0.2:
-            return self.one(lambda: [self.name()], lambda: [self.random.choice(NUMBERS)], lambda: [self.name(), "'"], lambda: [self.random.choice(CONSTANTS), "(", ")"],
-                            lambda: ["f", "(||)"], lambda: ["g", "(|", self.name(), "|)"])
+            return self.one(
+                lambda: [self.name()], lambda: [self.random.choice(NUMBERS)], lambda: [self.name(), "'"], lambda: [self.random.choice(CONSTANTS), "(", ")"],
+                lambda: ["f", "(||)"], lambda: ["g", "(|", self.name(), "|)"],
+            )
         below = depth - 1
         if self.random.random() < 0.3:
             return self.one(lambda: ["(", *self.term(below), ")"], lambda: ["-", *self.term(below)], lambda: ["(", *self.term(below), ")", "'"],
@@ -49,8 +53,10 @@ class Maker:
     def formula(self, depth):
         """A formula."""
         if depth <= 0 or self.random.random() < 0.2:
-            return self.one(lambda: [*self.term(1), self.random.choice(["=", "!=", ">=", ">", "<=", "<"]), *self.term(1)], lambda: ["true"], lambda: ["false"],
-                            lambda: ["p", "(", *self.listed(lambda: self.term(1), 2), ")"], lambda: ["q", "(", ")"], lambda: ["p", "(||)"])
+            return self.one(
+                lambda: [*self.term(1), self.random.choice(["=", "!=", ">=", ">", "<=", "<"]), *self.term(1)], lambda: ["true"], lambda: ["false"],
+                lambda: ["p", "(", *self.listed(lambda: self.term(1), 2), ")"], lambda: ["q", "(", ")"], lambda: ["p", "(||)"],
+            )
         below = depth - 1
         return self.one(
             lambda: ["!", *self.wrapped(self.formula(below))],
@@ -67,8 +73,10 @@ class Maker:
     def program(self, depth):
         """A program."""
         if depth <= 0 or self.random.random() < 0.2:
-            return self.one(lambda: ["a", ";"], lambda: [self.name(), ":=", *self.term(1), ";"], lambda: [self.name(), ":=", "*", ";"], lambda: [self.name(), "'", ":=", "1", ";"],
-                            lambda: ["?", *self.formula(0), ";"])
+            return self.one(
+                lambda: ["a", ";"], lambda: [self.name(), ":=", *self.term(1), ";"], lambda: [self.name(), ":=", "*", ";"],
+                lambda: [self.name(), "'", ":=", "1", ";"], lambda: ["?", *self.formula(0), ";"],
+            )
         below = depth - 1
         return self.one(
             lambda: ["?", *self.formula(below), ";"],
@@ -80,7 +88,8 @@ class Maker:
 
     def system(self, depth):
         """A system."""
-        items = self.listed(lambda: self.one(lambda: [self.name(), "'", "=", *self.term(1)], lambda: ["c"], lambda: ["c", "{|", self.name(), "|}"]), 3)
+        equation, constants = (lambda: [self.name(), "'", "=", *self.term(1)]), [lambda: ["c"], lambda: ["c", "{|", self.name(), "|}"]]
+        items = self.listed(lambda: self.one(equation, *constants), 3)
         return ["{", *items, *(["&", *self.formula(depth)] if self.random.random() < 0.5 else []), "}"]
 
     def group(self, tokens):
