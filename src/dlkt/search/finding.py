@@ -17,7 +17,7 @@ from dlkt.search.kernel import Failed, Goal, Kernel
 from dlkt.search.lemmas import Lemma
 from dlkt.search.shapes import proved
 from dlkt.search.sketches import expand
-from dlkt.search.solver import Solver
+from dlkt.search.solver import SECOND, Solver
 
 SECONDS = 60.0
 AFTER = 20.0  # seconds for a partial strategy behind the bound
@@ -115,7 +115,7 @@ class Finder:
         self.search = Search(self.kernel, self.solver, notes_wanted(notes, options.annotations), options.seconds, proved)
         self.search.guess = options.guess
         self.breaking = Breaking(source, Path(self.kernel.folder.name))
-        self.search.is_broken = self.breaking.look
+        self.search.is_broken = lambda: self.breaking.look(self.search.work() / SECOND)
         self.lemmas: list[Lemma] = []
         self.was_interrupted = False
 
