@@ -15,6 +15,7 @@ from dlkt.semantics.apart import Apart
 
 START, LATEST = 0.7, 4.0  # seconds of the processor, and of the clock, that the search has before
 SECONDS, ROUNDS = 10, 3
+MOST_WAIT = 40.0  # seconds for its answer, where the search is done
 LOOK = 0.1  # seconds between two looks at whether there is an answer
 EXACT, BY_NUMBERS = "refuted", "refuted by numbers"
 
@@ -54,7 +55,7 @@ class Breaking:
         """Waits for the answer, up to a time."""
         self.start()
         if self.told is None:
-            self.take(max(0.0, min(end - time.time(), SECONDS + 5.0)))
+            self.take(max(0.0, min(end - time.time(), MOST_WAIT)))
 
     def take(self, seconds: float) -> None:
         """Takes the answer where it comes within so many seconds."""
