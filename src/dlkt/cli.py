@@ -28,6 +28,7 @@ COMMANDS = {
     "batch": Command("dlkt.commands.batch"),
     "leaves": Command("dlkt.commands.leaves"),
     "page": Command("dlkt.commands.page"),
+    "print": Command("dlkt.commands.print"),
     "tree": Command("dlkt.commands.tree"),
     "prompt": Command("dlkt.commands.prompt"),
     "readable": Command("dlkt.commands.readable"),

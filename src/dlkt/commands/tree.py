@@ -10,32 +10,48 @@ With the model and the strategy that made the term, the lines of a word of the s
 strategy is run again. Where it makes another term, or it can't be said which word made which line, the page has the lines, and
 standard error says so.
 
+Each row begins with what changed against the row above it: the formulas of the goal that the goal above doesn't have, with their places.
+Behind them stand the others.
+
 Nothing is checked here: that is the work of `dlk check`. The shape follows from the lines alone: which line works on which
-goal, and how many premises its rule has. A term may be of either version; lines are numbered as its steps are. The texts of goals are those that the lines give, and what the rules for
-connectives, cuts and the structure of a sequent make of them; where that isn't enough, a formula is shown as dots.
+goal, and how many premises its rule has. A term may be of either version; lines are numbered as its steps are. The goals are those that the
+lines give, and what the rules for connectives, cuts and the structure of a sequent make of them; where that isn't enough, a formula is shown
+as dots. The page has each formula once, as a term of version 2 has it, and makes the texts of them itself.
 """
+import argparse
 import html
 import json
 import pathlib
 import re
 import sys
-from typing import NamedTuple
+from typing import Callable, Iterable, NamedTuple, Sequence
 
+from dlkt import reader as texts
 from dlkt.calculus import PREMISES
-from dlkt.program import Refused, are_same_file, position, read_bytes, split_list, split_sequent
-from dlkt.terms import readable, version_of
-from dlkt.words import word_runs
+from dlkt.layout import laid_out
+from dlkt.program import Name, Refused, are_same_file, position, read_bytes
+from dlkt.terms import Numbering, Step, Term, read, trees_in
+from dlkt.trees import BRACKETS, PROGRAM, ROWS, Tree, Trees, text
+from dlkt.words import Run, word_runs
 
 PAGES = pathlib.Path(__file__).resolve().parent.parent / "pages"
 
-# The premise of each axiomatic rule: its symbols, and what stands between them.
+# The premise of each axiomatic rule over its symbols.
 AXIOMATIC = {
-    "G": ["p(||)"], "allgen": ["p(||)"], "mon": ["p(||)", "->", "q(||)"], "CE": ["p(||)", "<->", "q(||)"],
-    "CT": ["f(||)", "=", "g(||)"], "CQ": ["f(||)", "=", "g(||)"],
+    "G": "p(||)", "allgen": "p(||)", "mon": "p(||) -> q(||)", "CE": "p(||) <-> q(||)", "CT": "f(||) = g(||)", "CQ": "f(||) = g(||)",
 }
-UNKNOWN = "\u2026"
+# The operators of the formulas at which rules work, by the rules' names without L and R.
+RULE_WORDS = {
+    "not": ("not",), "and": ("and",), "or": ("or",), "imply": ("imply",), "equiv": ("equiv",), "skolem": ("forall", "exists"),
+    "equivify": ("imply",), "commuteEquiv": ("equiv",),
+}
+KINDS = ("open", "rule", "axiom", "leaf", "subst", "rename", "again", "start")
 FIRST_BYTES = b"<!doctype html>"  # of a page
-BINARY = ["<->", "->", "|", "&"]
+LONG, NARROW = 60, 60  # letters of a formula with a program that is laid out, and the width of its lines
+
+# The formulas on a side, none where one isn't known; and both sides.
+Side = tuple[Tree | None, ...]
+Sequent = tuple[Side, Side]
 
 
 class Wrong(Refused):
@@ -45,94 +61,73 @@ class Wrong(Refused):
 class Told(NamedTuple):
     """What is known of the words of the strategy: the text of each and where it stands, and which of them made a line."""
 
-    words: list
-    by_line: dict
+    words: list[list[str]]
+    by_line: dict[int, int]
 
 
 UNTOLD = Told([], {})
 
 
 class Line:
-    """A step line: its number, its word, the facts and the goal that it names, and the rest of it."""
+    """A step line: its number, its word, the facts and the goal that it names, and its rule: the name, what stands in the brackets, and its
+    formula."""
 
-    def __init__(self, number, text):
-        self.number, self.text = number, text
-        parts = text.split(" ", 2)
-        if len(parts) < 3 or parts[0] != str(number):
-            raise Wrong(f"line {number}: no step line of this number")
-        self.word, rest = parts[1], parts[2]
-        self.fact = self.goal = self.by = None
-        self.rest = rest
-        try:
-            self.take(rest)
-        except ValueError as fault:
-            raise Wrong(f"line {number}: {fault}") from fault
-
-    def take(self, rest):
-        """Takes the parts behind the word."""
-        if self.word == "apply":
-            fact, goal, self.rest = rest.split(" ", 2)
-            self.fact, self.goal = int(fact), int(goal)
-        elif self.word == "merge":
-            self.fact, self.goal, self.by = (int(part) for part in rest.split(" "))
-        elif self.word in ("subst", "rename"):
-            fact, self.rest = rest.split(" ", 1)
-            self.fact = int(fact)
-        elif self.word not in ("start", "axiom", "rule", "leaf"):
-            raise ValueError(f"no step begins with {self.word}")
-
-    def rule(self):
-        """The name of the rule that is applied, and its arguments."""
-        name, _, inside = self.rest.partition("(")
-        return name, inside.removesuffix(")")
+    def __init__(self, step: Step) -> None:
+        self.step, self.number, self.word = step, step.number, step.word
+        self.fact = self.goal = self.by = 0
+        self.rule, self.inside, self.formula = "", "", step.formula
+        parts = step.rest.split(" ", 2)
+        if step.word in ("apply", "merge"):
+            self.fact, self.goal = int(parts[0]), int(parts[1])
+        if step.word == "merge":
+            self.by = int(parts[2])
+        if step.word in ("subst", "rename"):
+            self.fact = int(parts[0])
+        if step.word == "apply":
+            self.rule, _, inside = parts[2].partition("(")
+            self.inside = inside.removesuffix(")").removesuffix(",")
 
 
 class Node:
     """A goal, and what was done at it."""
 
-    def __init__(self, kind, line, text="", kids=()):
-        self.kind, self.line, self.text, self.kids = kind, line, text, list(kids)
-        self.made_by, self.merges, self.again = 0, [], None
-        self.sequent = None
-        self.same_as = None
+    def __init__(self, kind: str, line: int, name: str = "", kids: "Iterable[Node]" = ()) -> None:
+        self.kind, self.line, self.name, self.kids = kind, line, name, list(kids)
+        self.made_by, self.merges = 0, list[int]()
+        self.again: Node | None = None
+        self.sequent: Sequent | None = None
+        self.same_as: Node | None = None
 
 
-def read(text):
-    """The lines of a term, and for each how many goals it has."""
-    lines, goals = [None], [0]
-    for number, row in enumerate(text.split("\n"), 1):
-        if row == "done":
-            break
-        line = Line(number, row)
+def lines_of(term: Term) -> tuple[list[Line], list[int]]:
+    """The lines of a term, and for each how many goals it has; both begin with a place for no line."""
+    lines, goals = list[Line](), [0]
+    for number, step in enumerate(term.steps, 1):
+        line = Line(step)
         for fact in (line.fact, line.by):
-            if fact is not None and not 1 <= fact < number:
+            if fact >= number:
                 raise Wrong(f"line {number}: there is no line {fact} before it")
-        if line.goal is not None and not 1 <= line.goal <= goals[line.fact]:
+        if line.goal > goals[line.fact]:
             raise Wrong(f"line {number}: line {line.fact} has no goal {line.goal}")
         lines.append(line)
         goals.append(count_goals(line, goals))
-    if len(lines) == 1:
-        raise Wrong("there are no lines")
-    return lines, goals
+    return [lines[0], *lines], goals
 
 
-def count_goals(line, goals):
+def count_goals(line: Line, goals: Sequence[int]) -> int:
     """How many goals a line has, from those of the lines before."""
     if line.word in ("start", "rule"):
         return 1
     if line.word in ("axiom", "leaf"):
         return 0
     if line.word == "apply":
-        name, _ = line.rule()
-        if name not in PREMISES:
-            raise Wrong(f"line {line.number}: there is no rule {name}")
-        return goals[line.fact] - 1 + PREMISES[name]
+        return goals[line.fact] - 1 + PREMISES[line.rule]
     if line.word == "merge":
         return goals[line.fact] - 1 + goals[line.by]
     return goals[line.fact]
 
 
-def followed(node):
+def followed(node: Node) -> Node:
     """The node that stands for this one."""
     while node.same_as is not None:
         node = node.same_as
@@ -143,59 +138,58 @@ class Drawing:
     """The tree of the last line. It is made from there to the front: of a line, and nodes for the goals that it leaves, come
     the line's fact and nodes for the goals of that. A proof that is put in at two places is drawn at the first."""
 
-    def __init__(self, text):
-        self.lines, self.goals = read(text)
+    def __init__(self, data: str | bytes) -> None:
+        self.term = read(data)
+        self.lines, self.goals = lines_of(self.term)
         last = len(self.lines) - 1
         self.open = [Node("open", 0) for _ in range(self.goals[last])]
         self.root = Node("hole", 0)
-        self.drawn, self.used, self.waiting = {}, set(), [(last, self.root, self.open)]
+        self.drawn, self.used = dict[int, Node](), set[int]()
+        self.waiting = [(last, self.root, self.open)]
         while self.waiting:
             self.draw(*self.waiting.pop())
         self.root = followed(self.root)
         self.nodes = self.in_order()
-        fill_sequents(self.root)
+        Goals(self.lines, trees_of(self.term)).fill(self.root)
 
-    def draw(self, number, root, goals):
+    def draw(self, number: int, root: Node, goals: list[Node]) -> None:
         """Draws a line's proof at a node that stands empty, with these nodes for its goals."""
-        given = []
         while True:
             line = self.lines[number]
             self.used.add(number)
+            at = line.goal - 1
             if line.word == "apply":
-                at, width = line.goal - 1, PREMISES[line.rule()[0]]
-                node = Node("rule", number, line.rest, goals[at:at + width])
-                goals = goals[:at] + [node] + goals[at + width:]
-                number = line.fact
+                width = PREMISES[line.rule]
+                node = Node("rule", number, line.rule, goals[at : at + width])
+                goals = [*goals[:at], node, *goals[at + width :]]
             elif line.word == "merge":
-                at, width = line.goal - 1, self.goals[line.by]
-                goals = goals[:at] + [self.other(line.by, goals[at:at + width], number)] + goals[at + width:]
-                number = line.fact
+                width = self.goals[line.by]
+                goals = [*goals[:at], self.other(line.by, goals[at : at + width], number), *goals[at + width :]]
             else:
-                node, given = self.end(line, goals)
                 break
+            number = line.fact
+        node = self.end(line, goals)
         root.same_as = node
         node = followed(node)
         node.merges = root.merges + node.merges
-        if given:
-            node.sequent = given
+        if line.step.sides is not None:
+            node.sequent = tuple(line.step.sides[0]), tuple(line.step.sides[1])
 
-    def end(self, line, goals):
-        """The node with which the proof of a line without an earlier goal begins, and its sequent, where it is given."""
+    def end(self, line: Line, goals: list[Node]) -> Node:
+        """The node with which the proof of a line without an earlier goal begins."""
         if line.word == "start":
-            return goals[0], sequent_of(line.rest)
-        if line.word == "leaf":
-            return Node("leaf", line.number, "leaf"), sequent_of(line.rest)
-        if line.word == "axiom":
-            return Node("axiom", line.number, f"axiom {line.rest}"), None
+            return goals[0]
+        if line.word in ("leaf", "axiom"):
+            return Node(line.word, line.number)
         if line.word == "rule":
-            return Node("rule", line.number, f"rule {line.rest}", goals), None
-        return Node(line.word, line.number, f"{line.word} {line.rest}", [self.other(line.fact, goals, 0)]), None
+            return Node("rule", line.number, line.step.rest, goals)
+        return Node(line.word, line.number, "", [self.other(line.fact, goals, 0)])
 
-    def other(self, number, goals, merge):
+    def other(self, number: int, goals: list[Node], merge: int) -> Node:
         """A node for the proof of another line. One that was drawn already is named again."""
         short = self.lines[number].word in ("axiom", "leaf", "rule")
         if number in self.drawn and not short:
-            node = Node("again", number, f"the proof of line {number} again", goals)
+            node = Node("again", number, "", goals)
             node.again = self.drawn[number]
         else:
             node = Node("hole", 0)
@@ -205,9 +199,9 @@ class Drawing:
             node.merges = [merge]
         return node
 
-    def in_order(self):
+    def in_order(self) -> list[Node]:
         """The nodes, each before those below it, with the line that made each of them."""
-        nodes, waiting = [], [self.root]
+        nodes, waiting = list[Node](), [self.root]
         while waiting:
             node = waiting.pop()
             nodes.append(node)
@@ -218,258 +212,211 @@ class Drawing:
         return nodes
 
 
-# The texts of goals
+# Goals
 
-def pieces(text, marks):
-    """Where each of the marks stands outside all brackets: its place and itself. None where the
-    end of a diamond isn't found."""
-    found, depth, at = [], 0, 0
-    while at < len(text):
-        byte = text[at]
-        if byte in "([{":
-            depth += 1
-        elif byte in ")]}":
-            depth -= 1
-        elif depth == 0:
-            if byte == "<" and begins_diamond(text, at):
-                at = end_of_diamond(text, at)
-                if at is None:
-                    return None
-                continue
-            mark = next((mark for mark in ("<->", "==>", "->", "<=", ">=", "|", "&", ",") if text.startswith(mark, at)), byte)
-            if mark in marks:
-                found.append((at, mark))
-            at += len(mark) - 1
-        at += 1
-    return found
-
-
-def begins_diamond(text, at):
-    """Whether the `<` here begins a diamond and is no comparison or arrow."""
-    if text.startswith(("<->", "<="), at):
-        return False
-    before = text[:at].rstrip()
-    return not before or before[-1] in "&|!>],(" or re.search(r"\\(forall|exists)\s*\w+$", before) is not None
-
-
-def end_of_diamond(text, begin):
-    """The place behind the `>` that ends the diamond, which stands behind the last byte of a program. None where it isn't found."""
-    depth = 0
-    for at in range(begin + 1, len(text)):
-        byte = text[at]
-        depth += (byte in "([{") - (byte in ")]}")
-        if depth == 0 and byte == ">" and text[:at].rstrip()[-1] in ";}*":
-            return at + 1
-    return None
-
-
-def sequent_of(text):
-    """The two sides of the text of a sequent, which may have comments; none where it is no sequent."""
-    return split_sequent(re.sub(r"/\*.*?\*/|//.*", " ", text))
-
-
-def bare(text):
-    """A formula without brackets round the whole."""
-    text = text.strip()
-    while text.startswith("(") and text.endswith(")"):
-        depth = 0
-        for at, byte in enumerate(text):
-            depth += (byte == "(") - (byte == ")")
-            if depth == 0:
-                break
-        if at != len(text) - 1 or text.startswith("(|"):
-            break
-        text = text[1:-1].strip()
-    return text
-
-
-def parts_of(formula, operator):
-    """The two sides of a formula with this operator at its top, without the brackets that they don't need."""
-    if formula is None:
-        return None, None
-    text = bare(formula)
-    found = pieces(text, BINARY)
-    if found is None:
-        return None, None
-    for mark in BINARY:
-        first = next((at for at, other in found if other == mark), None)
-        if first is not None:
-            return (bare(text[:first]), bare(text[first + len(mark):])) if mark == operator else (None, None)
-    return None, None
-
-
-def behind(formula, prefix):
-    """What stands behind a prefix: a `!`, or a quantifier and its name."""
-    if formula is None:
-        return None
-    text = bare(formula)
-    begins = re.match(prefix, text)
-    if not begins or pieces(text[begins.end():], BINARY) != []:
-        return None
-    return bare(text[begins.end():])
-
-
-def joined(left, operator, right):
-    """The text of a formula with this operator, with the brackets that it needs."""
-    if left is None or right is None:
-        return None
-    weaker = BINARY[:BINARY.index(operator)]
-    return f"{within(left, [*weaker, operator])} {operator} {within(right, weaker)}"
-
-
-def within(text, weaker):
-    """A formula in brackets where one of these operators stands outside its own."""
-    found = pieces(text, weaker)
-    return text if found == [] else f"({text})"
-
-
-def put(side, at, *formulas):
-    """A side with these formulas in the stead of the one at a place."""
-    return [*side[:at], *formulas, *side[at + 1:]]
-
-
-def premises(sequent, name, inside):
-    """The premises of a rule on a sequent, as far as they can be told from the texts; None where its place isn't there."""
-    left, right = sequent
-    if name == "cut":
-        return [([*left, inside], right), (left, [*right, inside])]
-    first, _, given = inside.partition(",")
-    at, on_left = int(first) - 1, name.endswith("L")
-    side = left if on_left else right
-    if at >= len(side):
-        return None
-    formula = side[at]
-
-    def here(*formulas):
-        return (put(left, at, *formulas), right) if on_left else (left, put(right, at, *formulas))
-
-    return structural(name, sequent, at, given, formula, here) or logical(name, sequent, at, given, formula, here)
-
-
-def structural(name, sequent, at, given, formula, here):
-    """The premise of a rule of a sequent's structure or of a bound variable."""
-    left, right = sequent
-    if name in ("hideL", "hideR"):
-        return [here()]
-    if name == "coHideR":
-        return [([], [formula])]
-    if name in ("exchangeL", "exchangeR"):
-        side, other = list(left if name.endswith("L") else right), int(given) - 1
-        side[at], side[other] = side[other], side[at]
-        return [(side, right) if name.endswith("L") else (left, side)]
-    if name in ("boundL", "boundR"):
-        return [here(None)]
-    if name in ("skolemL", "skolemR"):
-        return [here(behind(formula, r"\\(?:forall|exists)\s*\w+(?!')"))]
-    return None
-
-
-def logical(name, sequent, at, given, formula, here):
-    """The premises of a rule of a connective, or of a cut at a place."""
-    left, right = sequent
-    if name == "notL":
-        return [(put(left, at), [*right, behind(formula, "!")])]
-    if name == "notR":
-        return [([*left, behind(formula, "!")], put(right, at))]
-    if name == "cutL":
-        return [here(given), (put(left, at), [*right, joined(formula, "->", given)])]
-    if name == "cutR":
-        return [here(given), here(joined(given, "->", formula))]
-    operator = next(mark for word, mark in (("and", "&"), ("or", "|"), ("imply", "->"), ("equivify", "->"), ("equiv", "<->"),
-                                            ("commute", "<->")) if name.startswith(word))
-    f, g = parts_of(formula, operator)
-    both = {
-        "andL": lambda: [(put(left, at, f) + [g], right)],
-        "andR": lambda: [here(f), here(g)],
-        "orL": lambda: [here(f), here(g)],
-        "orR": lambda: [(left, put(right, at, f) + [g])],
-        "implyL": lambda: [(put(left, at), [*right, f]), here(g)],
-        "implyR": lambda: [([*left, f], put(right, at, g))],
-        "equivL": lambda: [(put(left, at, joined(f, "->", g)) + [joined(g, "->", f)], right)],
-        "equivR": lambda: [here(joined(f, "->", g)), here(joined(g, "->", f))],
-        "equivifyR": lambda: [here(joined(f, "<->", g))],
-        "commuteEquivL": lambda: [here(joined(g, "<->", f))],
-        "commuteEquivR": lambda: [here(joined(g, "<->", f))],
-    }
-    return both[name]()
-
-
-def premise_of_instance(name, pairs):
-    """The premise of an axiomatic rule behind a substitution of these pairs, where it can be told."""
-    replaced = {}
-    for pair in split_list(pairs):
-        symbol, _, text = pair.partition("~>")
-        replaced["".join(symbol.split())] = text
-    words = [bare(replaced.get(part, part)) for part in AXIOMATIC.get(name, [])]
-    if len(words) == 1:
-        return [], words
-    if len(words) == 3:
-        left, operator, right = words
-        return [], [joined(left, operator, right) if operator in BINARY else f"{left}={right}"]
-    return None
-
-
-def fill_sequents(root):
-    """Gives each node the sequent that follows from the one above it, where no line gives its own."""
-    waiting = [root]
+def trees_of(term: Term) -> Trees:
+    """Where the trees of a term were made, and all that are their parts: so that what is made of them is the same tree where it is one of them."""
+    trees = Trees()
+    waiting = [tree for step in term.steps for tree in trees_in(step)]
+    seen = set[int]()
     while waiting:
-        node = waiting.pop()
-        if node.kind == "rule" and node.sequent and node.kids and not node.text.startswith("rule "):
-            name, _, inside = node.text.partition("(")
-            try:
-                found = premises(node.sequent, name, inside.removesuffix(")")) or []
-            except (ValueError, IndexError) as fault:
-                raise Wrong(f"line {node.line}: {node.text} names no place of its goal") from fault
-            for kid, sequent in zip(node.kids, found):
-                if kid.sequent is None:
-                    kid.sequent = sequent
-        if node.kind == "subst" and node.kids[0].kids and node.kids[0].text.startswith("rule "):
-            goal = node.kids[0].kids[0]
-            if goal.sequent is None:
-                goal.sequent = premise_of_instance(node.kids[0].text.removeprefix("rule "), node.text.removeprefix("subst "))
-        waiting.extend(node.kids)
+        tree = waiting.pop()
+        if id(tree) not in seen:
+            seen.add(id(tree))
+            trees.made[tree.word, tree.detail, tuple(map(id, tree.kids))] = tree
+            waiting += tree.kids
+    return trees
 
 
-def shown(sequent):
-    """The text of a sequent, or nothing."""
-    if sequent is None or all(formula is None for side in sequent for formula in side):
-        return ""
-    left, right = (", ".join(UNKNOWN if formula is None else formula for formula in side) for side in sequent)
-    return " ".join(part for part in (left, "==>", right) if part)
+def put(side: Side, at: int, *formulas: Tree | None) -> Side:
+    """A side with these formulas in the stead of the one at a place."""
+    return (*side[:at], *formulas, *side[at + 1 :])
+
+
+class Goals:
+    """The goals that follow from those above them, as far as they can be told."""
+
+    def __init__(self, lines: Sequence[Line], trees: Trees) -> None:
+        self.lines, self.trees = lines, trees
+
+    def fill(self, root: Node) -> None:
+        """Gives each node below this one the sequent that follows from the one above it, where no line gives its own."""
+        waiting = [root]
+        while waiting:
+            node = waiting.pop()
+            line = self.lines[node.line] if node.line else None
+            if line is not None and line.word == "apply" and node.kids and node.sequent:
+                try:
+                    found = self.premises(node.sequent, line)
+                except (ValueError, IndexError) as fault:
+                    raise Wrong(f"line {node.line}: {line.rule}({line.inside}) names no place of its goal") from fault
+                for kid, sequent in zip(node.kids, found):
+                    kid.sequent = kid.sequent or sequent
+            if line is not None and line.word == "subst" and node.kids[0].kids and node.kids[0].name in AXIOMATIC:
+                goal = node.kids[0].kids[0]
+                goal.sequent = goal.sequent or self.premise_of_instance(node.kids[0].name, line.step.pairs or [])
+            waiting.extend(node.kids)
+
+    def made(self, word: str, left: Tree | None, right: Tree | None) -> Tree | None:
+        """A formula of two parts, where both are known."""
+        return None if left is None or right is None else self.trees.make(word, "", left, right)
+
+    def premises(self, sequent: Sequent, line: Line) -> list[Sequent]:
+        """The premises of a rule on a sequent, as far as they can be told."""
+        left, right = sequent
+        if line.rule == "cut":
+            return [((*left, line.formula), right), (left, (*right, line.formula))]
+        first, _, second = line.inside.partition(",")
+        at, is_left = int(first) - 1, line.rule.endswith("L")
+        formula = (left if is_left else right)[at]
+
+        def here(*formulas: Tree | None) -> Sequent:
+            """The sequent with these formulas in the stead of that one."""
+            return (put(left, at, *formulas), right) if is_left else (left, put(right, at, *formulas))
+
+        if line.rule in ("cutL", "cutR"):
+            if is_left:
+                return [here(line.formula), (put(left, at), (*right, self.made("imply", formula, line.formula)))]
+            return [here(line.formula), here(self.made("imply", line.formula, formula))]
+        if line.rule in ("hideL", "hideR"):
+            return [here()]
+        if line.rule in ("boundL", "boundR"):
+            return [here(None)]
+        if line.rule in ("exchangeL", "exchangeR"):
+            other = int(second) - 1
+            moved = here((left if is_left else right)[other])
+            return [(put(moved[0], other, formula), right) if is_left else (left, put(moved[1], other, formula))]
+        if line.rule == "coHideR":
+            return [((), (formula,))]
+        return self.logical(sequent, line.rule, at, formula)
+
+    def logical(self, sequent: Sequent, rule: str, at: int, formula: Tree | None) -> list[Sequent]:
+        """The premises of a rule for a connective or a quantifier."""
+        left, right = sequent
+        is_fit = formula is not None and formula.word in RULE_WORDS.get(rule[:-1], ())
+        kids: Sequence[Tree | None] = formula.kids if formula is not None and is_fit else (None, None)
+        one, f, g = kids[0], kids[0], kids[-1]
+        new_left = put(left, at)
+        both: dict[str, Callable[[], list[Sequent]]] = {
+            "notL": lambda: [(new_left, (*right, one))],
+            "notR": lambda: [((*left, one), put(right, at))],
+            "skolemL": lambda: [(put(left, at, one), right)],
+            "skolemR": lambda: [(left, put(right, at, one))],
+            "andL": lambda: [((*put(left, at, f), g), right)],
+            "andR": lambda: [(left, put(right, at, f)), (left, put(right, at, g))],
+            "orL": lambda: [(put(left, at, f), right), (put(left, at, g), right)],
+            "orR": lambda: [(left, (*put(right, at, f), g))],
+            "implyL": lambda: [(new_left, (*right, f)), (put(left, at, g), right)],
+            "implyR": lambda: [((*left, f), put(right, at, g))],
+            "equivL": lambda: [((*put(left, at, self.made("imply", f, g)), self.made("imply", g, f)), right)],
+            "equivR": lambda: [(left, put(right, at, self.made("imply", f, g))), (left, put(right, at, self.made("imply", g, f)))],
+            "equivifyR": lambda: [(left, put(right, at, self.made("equiv", f, g)))],
+            "commuteEquivL": lambda: [(put(left, at, self.made("equiv", g, f)), right)],
+            "commuteEquivR": lambda: [(left, put(right, at, self.made("equiv", g, f)))],
+        }
+        return both[rule]() if rule in both else []
+
+    def premise_of_instance(self, name: str, pairs: Sequence[tuple[str, Tree]]) -> Sequent | None:
+        """The premise of an axiomatic rule behind a substitution of these pairs, where each of its symbols has one."""
+        premise, replaced = texts.formula(AXIOMATIC[name], self.trees), dict(pairs)
+        if not premise.kids:
+            return (), (replaced.get(text(premise), premise),)
+        first, second = (replaced.get(text(symbol), symbol) for symbol in premise.kids)
+        return (), (self.trees.make(premise.word, "", first, second),)
 
 
 # The page
 
-def part(name):
+def part(name: str) -> str:
     """The text of one of the files of which pages are made."""
     return (PAGES / name).read_text(encoding="utf-8").rstrip("\n")
 
 
-def filled(template, **parts):
+def filled(template: str, **parts: str) -> str:
     """A template with its marks, as `@NAME@`, replaced. Only the template's own marks are: none that a part has in it."""
     return re.sub(r"@([A-Z]+)@", lambda mark: parts.get(mark[1].lower(), mark[0]), template)
 
 
-def script_data(value):
+def script_data(value: object) -> str:
     """A value as a page's script reads it."""
     return json.dumps(value, separators=(",", ":")).replace("<", "\\u003c")
 
 
-def table(drawing, depth, told):
-    """What the page's script is given: the texts of sequents, the nodes by their place in the tree, the term's lines, and the
-    words of the strategy."""
-    places = {id(node): place for place, node in enumerate(drawing.nodes)}
-    texts, rows = {}, []
-    for node in drawing.nodes:
-        text = texts.setdefault(shown(node.sequent), len(texts))
-        again = places.get(id(followed(node.again)), -1) if node.again else -1
-        kids = [places[id(kid)] for kid in node.kids]
-        rows.append([node.kind, node.line, text, node.made_by, node.merges, kids, again, told.by_line.get(node.line, -1)])
-    lines = ["", *(line.text for line in drawing.lines[1:])]
-    return script_data({"texts": list(texts), "nodes": rows, "lines": lines, "words": told.words, "depth": depth})
+class Table:
+    """The formulas of a page, each once: the term in version 2, which has those of its lines, and nodes for others. A sequent is the numbers of
+    its formulas, 0 where one isn't known."""
+
+    def __init__(self, drawing: Drawing) -> None:
+        self.drawing, self.numbering = drawing, Numbering()
+        self.term = self.numbering.lines = ["dlk 2"]
+        for step in drawing.term.steps:
+            for tree in trees_in(step):
+                self.numbering.add(tree)
+            self.term.append(self.numbering.line(step))
+        self.more = self.numbering.lines = list[str]()
+        self.sequents, self.laid = dict[str, int](), dict[int, str]()
+
+    def text(self) -> str:
+        """The term in version 2."""
+        return "\n".join([*self.term, "done", ""])
+
+    def formula(self, tree: Tree | None) -> str:
+        """The number of a formula."""
+        if tree is None:
+            return "0"
+        self.numbering.add(tree)
+        return self.numbering.of([tree])[0]
+
+    def sequent(self, sequent: Sequent | None) -> int:
+        """The number of a sequent; 0 where nothing is known of it."""
+        sides = "|".join(",".join(map(self.formula, side)) for side in sequent) if sequent else "|"
+        return self.sequents.setdefault(sides, len(self.sequents) + 1) if sides.strip("0,|") else 0
+
+    def lay_out(self, sequent: Sequent) -> None:
+        """Has the formulas of a sequent laid out, where they are long and have programs."""
+        for tree in (*sequent[0], *sequent[1]):
+            if tree is not None and len(text(tree)) > LONG and has_program(tree):
+                self.laid[int(self.formula(tree))] = laid_out(tree, width=NARROW)
+
+    def given(self, depth: int, told: Told) -> dict[str, object]:
+        """What the page's script is given: the table of operators, the formulas, the sequents, the nodes in the order of the tree, each with the
+        number of its kids, and the words of the strategy."""
+        nodes, drawn = [], self.drawing.nodes
+        places = {id(node): place for place, node in enumerate(drawn)}
+        for node in drawn:
+            again = places.get(id(followed(node.again)), -1) if node.again else -1
+            row = [KINDS.index(node.kind), node.line, self.sequent(node.sequent), told.by_line.get(node.line, -1), len(node.kids)]
+            nodes.append(row + ([again, *node.merges] if again >= 0 or node.merges else []))
+        for goal in self.drawing.open:
+            if goal.sequent:
+                self.lay_out(goal.sequent)
+        return {
+            "operators": operators(), "term": self.text(), "more": self.more, "sequents": list(self.sequents), "laid": self.laid, "nodes": nodes,
+            "words": told.words, "depth": depth,
+        }
 
 
-def summary(drawing):
+def has_program(tree: Tree) -> bool:
+    """Whether a program stands in a tree."""
+    waiting = [tree]
+    while waiting:
+        here = waiting.pop()
+        if here.sort == PROGRAM:
+            return True
+        waiting += here.kids
+    return False
+
+
+def operators() -> dict[str, list[object]]:
+    """The table of operators as the page's script wants it: levels, the marks before, between and behind the kids, with @ for the detail, whether
+    there is one, and the brackets round it."""
+    return {
+        word: [row.level, row.first, row.later, row.opening.format("@"), row.between, row.closing, int(bool(row.detail)), BRACKETS[row.sort]]
+        for word, row in ROWS.items()
+    }
+
+
+def summary(drawing: Drawing) -> str:
     """One sentence on the whole."""
     lines = len(drawing.lines) - 1
     kinds = [node.kind for node in drawing.nodes]
@@ -480,20 +427,20 @@ def summary(drawing):
     return f"{lines} lines{spare}, {len(kinds)} nodes, {leaves} leaf node{'s' if leaves != 1 else ''}; {state}"
 
 
-def tree(drawing, depth, told):
+def tree(given: object) -> str:
     """The part of a page that has the tree: it wants the style `tree.css`."""
-    return filled(part("tree.html"), script=part("tree.js"), data=table(drawing, depth, told))
+    return filled(part("tree.html"), script=part("tree.js"), formulas=part("formulas.js"), data=script_data(given))
 
 
-def page(drawing, name, depth, told):
+def page(drawing: Drawing, name: str, depth: int, told: Told) -> str:
     """The text of the page."""
     parts = {"name": html.escape(name), "summary": summary(drawing), "style": part("tree.css")}
-    return filled(part("prooftree.html"), **parts, tree=tree(drawing, depth, told))
+    return filled(part("prooftree.html"), **parts, tree=tree(Table(drawing).given(depth, told)))
 
 
-def told_by(runs, strategy):
+def told_by(runs: Sequence[Run], strategy: bytes) -> Told:
     """The words that these runs are of. Those of one word at one place of the strategy are one."""
-    places, words, by_line = {}, [], {}
+    places, words, by_line = dict[int, int](), list[list[str]](), dict[int, int]()
     for run in runs:
         if run.byte not in places:
             places[run.byte] = len(words)
@@ -503,7 +450,7 @@ def told_by(runs, strategy):
     return Told(words, by_line)
 
 
-def told_of(given):
+def told_of(given: argparse.Namespace) -> Told:
     """The words of the strategy that is given, if one is."""
     if not given.strategy:
         return UNTOLD
@@ -514,7 +461,7 @@ def told_of(given):
     return told_by(runs, read_bytes(given.strategy))
 
 
-def refuse_bad_page(target, inputs):
+def refuse_bad_page(target: str, inputs: Iterable[Name]) -> None:
     """Refuses a PAGE that is an input, or has something else than a page in it."""
     if target == "-":
         return
@@ -528,25 +475,20 @@ def refuse_bad_page(target, inputs):
             raise Refused(f"{target} holds something else than a page: it isn't written over; name another file, or remove it")
 
 
-def write_page(target, text):
+def write_page(target: str, said: str) -> None:
     """Writes a page where it is wanted: `-` is standard output."""
-    data = text.encode("utf-8", "backslashreplace")
+    data = said.encode("utf-8", "backslashreplace")
     if target == "-":
         sys.stdout.buffer.write(data)
     else:
         pathlib.Path(target).write_bytes(data)
 
 
-def text_of(data):
-    """The lines of a term as they are drawn: one of version 2 is written as one of version 1."""
-    return readable(data) if version_of(data) == 2 else data.decode("utf-8", "replace")
-
-
 HELP = "draws the proof of a term as one page for a browser"
 EXAMPLE = "dlkt tree examples/car/term /tmp/car.html"
 
 
-def add_words(parser):
+def add_words(parser: argparse.ArgumentParser) -> None:
     """The words of the command."""
     parser.add_argument("term")
     parser.add_argument("page", nargs="?")
@@ -556,13 +498,12 @@ def add_words(parser):
     parser.add_argument("--dlk", metavar="PROGRAM", help="the program (that of this checkout)")
 
 
-def run(given):
+def run(given: argparse.Namespace) -> int:
     """Draws the term that the words name."""
     if bool(given.model) != bool(given.strategy):
         raise Refused("--model and --strategy go together")
     target = given.page or f"{given.term}.html"
     refuse_bad_page(target, [name for name in (given.term, given.model, given.strategy) if name])
-    drawing = Drawing(text_of(read_bytes(given.term)))
-    text = page(drawing, given.term, given.depth, told_of(given))
-    write_page(target, text)
+    drawing = Drawing(read_bytes(given.term))
+    write_page(target, page(drawing, given.term, given.depth, told_of(given)))
     return 0

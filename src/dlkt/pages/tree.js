@@ -1,9 +1,25 @@
 // The tree of a proof. A node is a line's goal; a unit is a word of the strategy: the nodes that it made, as far as they hang together.
 const [KIND, LINE, TEXT, MADE, MERGES, KIDS, AGAIN, WORD] = [0, 1, 2, 3, 4, 5, 6, 7];
-const nodes = data.nodes, count = nodes.length, ROW = 36, STEP = 22, LEFT = 14, WIDTH = 170, ENOUGH = { words: 200, lines: 400 };
-const parent = new Int32Array(count).fill(-1), unit = new Int32Array(count), exits = new Map();
+const KINDS = ["open", "rule", "axiom", "leaf", "subst", "rename", "again", "start"];
+const ROW = 36, STEP = 22, LEFT = 14, WIDTH = 170, ENOUGH = { words: 200, lines: 400 };
+// The nodes stand in the order of the tree, each with the number of its kids.
+const nodes = data.nodes.map(([kind, line, sequent, word, , again = -1, ...merges]) => [KINDS[kind], line, sequent, 0, merges, [], again, word]);
+const count = nodes.length, parent = new Int32Array(count).fill(-1), unit = new Int32Array(count), exits = new Map();
+{
+  const above = [];
+  data.nodes.forEach((given, n) => {
+    while (above.length && above[above.length - 1][1] === 0) above.pop();
+    if (above.length) {
+      const last = above[above.length - 1];
+      parent[n] = last[0];
+      nodes[last[0]][KIDS].push(n);
+      nodes[n][MADE] = nodes[last[0]][LINE];
+      last[1]--;
+    }
+    above.push([n, given[4]]);
+  });
+}
 let byWords = data.words.length > 0, limit = data.depth, folded = new Map(), opened = new Set(), picked = "", rows = [], shownAt = 0;
-nodes.forEach((node, n) => node[KIDS].forEach(kid => { parent[kid] = n; }));
 nodes.forEach((node, n) => {
   const isWithin = n > 0 && node[WORD] >= 0 && nodes[parent[n]][WORD] === node[WORD];
   unit[n] = isWithin ? unit[parent[n]] : n;
@@ -46,12 +62,11 @@ function measure() {
   }
 }
 const isFolded = row => below(row).length > 0 && (folded.has(row) ? folded.get(row) : depth.get(row) >= limit);
-const escaped = text => text.replace(/&/g, "&amp;").replace(/</g, "&lt;").replace(/>/g, "&gt;");
 const cut = (text, width) => text.length > width ? text.slice(0, width - 1) + "\u2026" : text;
 const several = (number, word) => `${number} ${word}${number === 1 ? "" : "s"}`;
 // What a line does at a node.
 function done(n) {
-  const node = nodes[n], line = node[LINE] ? data.lines[node[LINE]] : "";
+  const node = nodes[n], line = node[LINE] ? stepText(node[LINE]) : "";
   const parts = line.split(" ");
   if (node[KIND] === "open") return "open goal";
   if (node[KIND] === "again") return `the proof of line ${node[LINE]} again`;
@@ -64,6 +79,36 @@ function made(n) {
   const node = nodes[n];
   return (node[MERGES].length ? ` \u00b7 merged by line ${node[MERGES].join(", ")}` : "")
     + (node[MADE] ? ` \u00b7 goal made by line ${node[MADE]}` : "");
+}
+// What a row shows of its goal: first what the row above doesn't have, with its places, then the others. Of a formula that stands in the place of one
+// that begins alike only the part that changed is shown.
+const pairsOf = s => { const [left, right] = placed(sequentOf(s)); return [...left, ...right]; };
+function focus(fresh, old) {
+  if (old.includes(fresh)) return fresh;
+  let at = 0;
+  while (at < fresh.length && fresh[at] === old[at]) at++;
+  while (at > 0 && !/[&|>([{;,\s]/.test(fresh[at - 1])) at--;
+  return at > 12 && at < fresh.length ? UNKNOWN + fresh.slice(at) : fresh;
+}
+function changes(s, before) {
+  const here = pairsOf(s);
+  if (!before) return [here, []];
+  const sides = sequentOf(before), has = ([place, n]) => n > 0 && sides[place > 0 ? 1 : 0].includes(n);
+  return [here.filter(pair => !has(pair)), here.filter(has)];
+}
+const plus = (place, text) => `${place}: ${text}`;
+function rowText(s, before) {
+  if (!s) return [UNKNOWN, ""];
+  const [fresh, same] = changes(s, before), old = new Map(before ? pairsOf(before) : []);
+  const now = new Set(pairsOf(s).map(([place, n]) => `${place > 0} ${n}`));
+  const gone = [...old].filter(([place, n]) => n && !now.has(`${place > 0} ${n}`)).length;
+  const first = fresh.map(([place, n]) => {
+    const was = old.get(place);
+    return plus(place, was && n ? focus(textOf(n), textOf(was)) : shortOf(n));
+  }).join("   ");
+  const rest = same.map(([place, n]) => plus(place, shortOf(n))).join("   ");
+  const none = before && !fresh.length ? (gone ? `without ${gone} formula${gone > 1 ? "s" : ""}` : "the same") : "";
+  return [first || none, rest];
 }
 const sizes = new Map();
 nodes.forEach((node, n) => sizes.set(unit[n], (sizes.get(unit[n]) || 0) + 1));
@@ -88,6 +133,11 @@ function mark(row, x, y, isHidden) {
     : `<circle class="dot" data-fold="1" cx="${x}" cy="${y}" r="${big}"/>`;
   return shape + (isHidden ? `<path class="cross" d="M${x - 4} ${y}h8M${x} ${y - 4}v8"/>` : "");
 }
+function upper(n, before) {
+  const [fresh, same] = rowText(nodes[n][TEXT], before < 0 || before === n ? 0 : nodes[before][TEXT]), room = WIDTH - fresh.length - 5;
+  const others = same && room > 8 ? `<tspan class="same">   |  ${escaped(cut(same, room))}</tspan>` : "";
+  return escaped(cut(fresh, WIDTH)) + others;
+}
 function lower(row, hidden) {
   const n = numberOf(row);
   if (row[0] === "n") return escaped(cut(done(n), 110) + made(n) + hidden);
@@ -111,7 +161,7 @@ function draw() {
     const kind = row[0] === "w" ? "unit" + (sizes.get(n) === 1 ? " " + nodes[n][KIND] : "") : nodes[n][KIND];
     texts.push(`<g class="row ${kind}${row === picked ? " picked" : ""}" data-row="${row}">`
       + `<rect x="${x + 9}" y="${y - 15}" width="1300" height="33" fill="none" pointer-events="all"/>${mark(row, x, y, isHidden)}`
-      + `<text class="sequent" x="${x + 12}" y="${y - 2}">${escaped(cut(data.texts[nodes[n][TEXT]] || "\u2026", WIDTH))}</text>`
+      + `<text class="sequent" x="${x + 12}" y="${y - 2}">${upper(n, r ? numberOf(above.get(row)) : -1)}</text>`
       + `<text class="done" x="${x + 12}" y="${y + 12}">${lower(row, hidden)}</text></g>`);
   });
   document.getElementById("tree").innerHTML = `<svg xmlns="http://www.w3.org/2000/svg" width="${wide + 1330}" `
@@ -121,9 +171,9 @@ function draw() {
 }
 function tell(row) {
   picked = row;
-  const n = numberOf(row), node = nodes[n], sequent = data.texts[node[TEXT]] || "the lines don't tell this sequent";
-  const merges = node[MERGES].map(line => "\n" + data.lines[line]).join("");
-  const lines = (node[LINE] ? data.lines[node[LINE]] : "no line works on this goal: it is open") + merges;
+  const n = numberOf(row), node = nodes[n], sequent = node[TEXT] ? sequentLines(node[TEXT]) : "the lines don't tell this sequent";
+  const merges = node[MERGES].map(line => "\n" + stepText(line)).join("");
+  const lines = (node[LINE] ? stepText(node[LINE]) : "no line works on this goal: it is open") + merges;
   document.getElementById("told").textContent = row[0] === "w"
     ? `${sequent}\n${said(n)[0]}${place(n)}; a click on the square ${opened.has(n) ? "closes" : "opens"} them`
     : `${sequent}${made(n)}\n${lines}`;
