@@ -1,5 +1,7 @@
 """Tests of sketches: each word, where it may stand, lemmas that are linked, and what is refused."""
 
+import subprocess
+import sys
 import unittest
 from pathlib import Path
 
@@ -140,6 +142,12 @@ class Parts(Case):
 @needs_search
 class Lines(SearchCase):
     """Lines of a prompt, for one goal."""
+
+    def test_the_prompt_takes_the_words_of_sketches(self):
+        words = [sys.executable, "-m", "dlkt", "prompt", self.file("model", FALL)]
+        run = subprocess.run(words, input="implyR(1)\nauto\nquit\n", capture_output=True, text=True, check=False, env=self.environment())
+        self.assertEqual(run.returncode, 0, run.stderr)
+        self.assertIn("closed", run.stdout)
 
     def test_a_line_for_a_goal(self):
         said = expand_line("x>=0, v>=0 ==> [{x'=v,v'=1}]x>=0", "auto", Options(program=program_of(), folder=Path()))
