@@ -1,7 +1,7 @@
 #!/usr/bin/env python3
 """Measures the search for strategies on models: how many are found, how long it takes, how many words of strategy, how many questions to z3.
 
-    bench/search.py [--set SET].. [--mode MODE].. [--mutants] [--seconds N] [-j N] [--json FILE] [--keep FOLDER] [--dlk PROGRAM]
+    bench/search.py [--set SET].. [--mode MODE].. [--mutants] [--only EXPRESSION] [--seconds N] [-j N] [--json FILE] [--keep FOLDER] [--dlk PROGRAM]
 
 SET is a folder of examples whose sub-folders have a `model` (gallery, tutorial, recipes, keymaerax, search); MODE is `all` annotations as they
 stand, `loops` or `none`. --mutants leaves out one assumption of each model at a time. Each strategy found is judged as by `dlkt verify`. A model whose
@@ -182,6 +182,7 @@ def main() -> int:
     parser.add_argument("--set", action="append", choices=SETS, dest="sets")
     parser.add_argument("--mode", action="append", choices=MODES, dest="modes")
     parser.add_argument("--mutants", action="store_true")
+    parser.add_argument("--only", default="", help="those whose names match this expression")
     parser.add_argument("--seconds", type=int, default=60)
     parser.add_argument("-j", type=int, default=1, dest="jobs")
     parser.add_argument("--json")
@@ -189,6 +190,7 @@ def main() -> int:
     parser.add_argument("--dlk")
     options = parser.parse_args()
     tasks = list(tasks_of(options.sets or list(SETS), options.modes or ["all"], options.mutants))
+    tasks = [task for task in tasks if re.search(options.only, task.name)]
     results: list[Result] = []
     work = partial(done, seconds=options.seconds, keep=options.keep, program=program_of(options.dlk))
     with ProcessPoolExecutor(options.jobs) as pool:
