@@ -1,24 +1,23 @@
 #!/usr/bin/env python3
 """Measures the search for strategies on models: how many are found, how long it takes, how many words of strategy, how many questions to z3.
 
-    bench/search.py [--set SET].. [--mode MODE].. [--mutants] [--seconds N] [-j N] [--json FILE] [--keep FOLDER] [--dlk PROGRAM]
+    bench/search.py [--set SET].. [--mode MODE].. [--mutants] [--only EXPRESSION] [--seconds N] [-j N] [--json FILE] [--keep FOLDER] [--dlk PROGRAM]
 
 SET is a folder of examples whose sub-folders have a `model` (gallery, tutorial, recipes, keymaerax, search); MODE is `all` annotations as they
-stand, `loops` or `none`. --mutants leaves out one assumption of each model at a time. Each strategy found is put to `dlkt verify`. A model whose
-folder begins with `false_` is false; of a mutant it isn't known. Seconds are those of the clock and of the processor, with what was started.
+stand, `loops` or `none`. --mutants leaves out one assumption of each model at a time. Each strategy found is judged as by `dlkt verify`. A model whose
+folder begins with `false_` is false; of a mutant it isn't known. Seconds are those of the clock, and of processors with what was started.
 
 Printed are a line for each model, and a table of the sets.
 """
 
 import argparse
 import json
-import os
 import re
-import subprocess
+import resource
 import sys
-import tempfile
 import time
-from concurrent.futures import ThreadPoolExecutor
+from concurrent.futures import ProcessPoolExecutor
+from functools import partial
 from pathlib import Path
 from typing import Any, Iterator, NamedTuple
 
@@ -26,8 +25,11 @@ ROOT = Path(__file__).resolve().parent.parent
 sys.path.insert(0, str(ROOT / "src"))
 
 from dlkt.formulas import conjunction, conjuncts, make, model, text  # noqa: E402
+from dlkt.program import program_of  # noqa: E402
 from dlkt.reader import Note  # noqa: E402
+from dlkt.search.finding import Annotations, Finder, Options  # noqa: E402
 from dlkt.trees import Tree  # noqa: E402
+from dlkt.verdict import Options as Judging, Source, verdict_on  # noqa: E402
 
 SETS = ("gallery", "tutorial", "recipes", "keymaerax", "search")
 MODES = ("all", "loops", "none")
@@ -112,42 +114,37 @@ def tasks_of(sets: list[str], modes: list[str], has_mutants: bool) -> Iterator[T
                         yield Task(group, f"{path.parent.name} without {left_out}", changed, mode, False)
 
 
-def started(words: list[str], seconds: float) -> tuple[int, str, str, float]:
-    """The status, what a command printed on both outputs, and the seconds of the clock."""
-    begin = time.time()
-    environment = {**os.environ, "PYTHONPATH": str(ROOT / "src")}
+def processor_time() -> float:
+    """The seconds of processors of this process and of those that it started and that ended."""
+    used = [resource.getrusage(who) for who in (resource.RUSAGE_SELF, resource.RUSAGE_CHILDREN)]
+    return sum(one.ru_utime + one.ru_stime for one in used)
+
+
+def judged(task: Task, strategy: str, program: str) -> tuple[bool, str]:
+    """Whether a strategy is verified, as `dlkt verify` has it, and why not."""
+    verdict = verdict_on(Source("model", task.source.encode("latin-1")), Source("strategy", strategy.encode("latin-1")), Judging(program, jobs=1))
+    return verdict.is_verified, "; ".join(verdict.reasons)
+
+
+def done(task: Task, seconds: int, keep: str | None, program: str) -> Result:
+    """Searches a model, and has what is found judged."""
+    sys.setrecursionlimit(60_000)
+    begin, used = time.time(), processor_time()
+    finder = Finder(task.source, Options(seconds, Annotations(task.mode), program=program))
     try:
-        run = subprocess.run([sys.executable, "-m", "dlkt", *words], capture_output=True, text=True, timeout=seconds, check=False, env=environment)
-        said = run.returncode, run.stdout, run.stderr
-    except subprocess.TimeoutExpired:
-        said = -1, "", "the time is over"
-    return (*said, time.time() - begin)
-
-
-def done(task: Task, options: argparse.Namespace) -> Result:
-    """Searches a model, and puts what is found to `dlkt verify`."""
-    program = ["--dlk", options.dlk] if options.dlk else []
-    with tempfile.TemporaryDirectory() as folder:
-        place, strategy = Path(folder) / "model", Path(folder) / "strategy"
-        place.write_text(task.source, encoding="latin-1")
-        words = ["auto", str(place), "-o", str(strategy), "--seconds", str(options.seconds), "--annotations", task.mode, *program]
-        status, _, complaint, seconds = started(words, options.seconds * 2 + 60)
-        found = strategy.read_text(encoding="latin-1") if status == 0 and strategy.exists() else ""
-        is_verified, last = False, ""
-        if found:
-            status, told, _, _ = started(["verify", str(place), str(strategy), *program], 600)
-            is_verified, last = status == 0, told.strip().split("\n")[-1]
-            if options.keep:
-                kept = Path(options.keep) / task.mode / task.group / task.name.replace("/", "_")[:80]
-                kept.mkdir(parents=True, exist_ok=True)
-                (kept / "strategy").write_text(found, encoding="latin-1")
-    lines = [line.removeprefix("auto: ") for line in complaint.split("\n") if not re.match(r"auto: \d+ s, ", line)]
-    counted = re.search(r"([\d.]+) s of processors, (\d+) questions, \d+ calls", complaint)
-    processor, asked = (float(counted[1]), int(counted[2])) if counted else (0.0, 0)
-    why = [line for line in lines if line and " questions, " not in line]
-    values = any(mark in line for line in why for mark in ("the model is false", "annotation:", " at ", "doesn't hold at first", ": from "))
-    said = last if found and not is_verified else "" if found else " / ".join(why)[:400]
-    return Result(task, bool(found), is_verified, values, seconds, processor, words_of(found), asked, said)
+        found = finder.found()
+    finally:
+        finder.stop()
+    clock, processor = time.time() - begin, processor_time() - used
+    strategy = found.strategy if found.is_whole else None
+    is_verified, why = judged(task, strategy, program) if strategy else (False, "")
+    if strategy and keep:
+        kept = Path(keep) / task.mode / task.group / task.name.replace("/", "_")[:80]
+        kept.mkdir(parents=True, exist_ok=True)
+        (kept / "strategy").write_text(strategy + "\n", encoding="latin-1")
+    said = why if strategy else " / ".join(found.values or found.reasons[-3:])[:400]
+    numbers = (clock, processor, words_of(strategy or ""), found.questions)
+    return Result(task, bool(strategy), is_verified, found.is_told_with_values, *numbers, said)
 
 
 def line_of(result: Result) -> str:
@@ -185,6 +182,7 @@ def main() -> int:
     parser.add_argument("--set", action="append", choices=SETS, dest="sets")
     parser.add_argument("--mode", action="append", choices=MODES, dest="modes")
     parser.add_argument("--mutants", action="store_true")
+    parser.add_argument("--only", default="", help="those whose names match this expression")
     parser.add_argument("--seconds", type=int, default=60)
     parser.add_argument("-j", type=int, default=1, dest="jobs")
     parser.add_argument("--json")
@@ -192,9 +190,11 @@ def main() -> int:
     parser.add_argument("--dlk")
     options = parser.parse_args()
     tasks = list(tasks_of(options.sets or list(SETS), options.modes or ["all"], options.mutants))
+    tasks = [task for task in tasks if re.search(options.only, task.name)]
     results: list[Result] = []
-    with ThreadPoolExecutor(options.jobs) as pool:
-        for result in pool.map(lambda task: done(task, options), tasks):
+    work = partial(done, seconds=options.seconds, keep=options.keep, program=program_of(options.dlk))
+    with ProcessPoolExecutor(options.jobs) as pool:
+        for result in pool.map(work, tasks):
             results.append(result)
             print(line_of(result), flush=True)
     print("\n".join(["", *table(results)]))

@@ -1,6 +1,6 @@
 """Says of many proofs which are verified.
 
-    dlkt batch FOLDER.. [-j N] [--dask ADDRESS] [--against TABLE] [--seconds N] [--json] [--dlk PROGRAM]
+    dlkt batch FOLDER.. [-j N] [--search] [--dask ADDRESS] [--against TABLE] [--seconds N] [--json] [--dlk PROGRAM]
 
 A proof is a folder with a `model` and a `strategy` in it, or with a `model` and a `term`; each one below the named folders is looked at,
 also behind a link, N at a time (as many as there are processors). Where a name has what ends a line, an escape stands for it. Of a
@@ -15,6 +15,9 @@ closed, guarded, and all leaves valid by the solvers that are there. A table is 
 
 `6/6` are the leaves that are valid, and all. Behind a `#` stands why a proof isn't verified. With --against and a table that was printed
 before it is said last what changed since, but for the times. --json prints one object in place of all this.
+
+With --search a folder with a `model` alone counts, too: a strategy is searched for (docs/AUTO.md), for a minute at most. A strategy that is a sketch is
+turned into a plain one.
 
 With --dask the proofs are tasks of a Dask scheduler (Debian's python3-distributed) at this address, each with the bytes of its folder; what a
 worker had that is lost is done again. Workers need this package, the solvers, and the program: that of DLK there, or of the same path as here.
@@ -38,7 +41,7 @@ from pathlib import Path
 from typing import Any, Iterable, Iterator, Mapping, NamedTuple, Sequence
 
 from dlkt.commands.verify import at
-from dlkt.program import Refused, count, one_line, program_of, read_bytes, seconds
+from dlkt.program import TERM_BEGINS, Refused, count, one_line, program_of, read_bytes, seconds
 from dlkt.solvers import there
 from dlkt.verdict import Fault, Kind, Options, Source, Verdict, verdict_on
 
@@ -120,9 +123,9 @@ def unknown(name: str, why: str) -> Row:
 
 # Many proofs, each in a process of its own
 
-def is_proof(folder: Path) -> bool:
-    """Whether a folder has a model, and a strategy or a term. A link that leads nowhere counts, too: its row says so."""
-    return os.path.lexists(folder / "model") and any(os.path.lexists(folder / name) for name in ("strategy", "term"))
+def is_proof(folder: Path, searches: bool = False) -> bool:
+    """Whether a folder has a model, and a strategy or a term, where none is searched for. A link that leads nowhere counts, too: its row says so."""
+    return os.path.lexists(folder / "model") and (searches or any(os.path.lexists(folder / name) for name in ("strategy", "term")))
 
 
 def folders_below(root: Path) -> Iterator[Path]:
@@ -137,18 +140,18 @@ def folders_below(root: Path) -> Iterator[Path]:
         yield here
 
 
-def proofs_below(names: Sequence[str]) -> list[Named]:
-    """The folders with a proof, each with its name: below one named folder that is none as it is from there, else as it is from here. The
-    one in which one stands has its own name, where no other is called so."""
+def proofs_below(names: Sequence[str], searches: bool = False) -> list[Named]:
+    """The folders with a proof, or with a model where one is searched for, each with its name: below one named folder that is none as it is from
+    there, else as it is from here. The one in which one stands has its own name, where no other is called so."""
     found: list[Named] = []
     for name in names:
         root = Path(name)
         if not root.is_dir():
             raise Refused(f"{name}: {'not a folder' if root.exists() else 'no such folder'}")
-        is_above = len(names) == 1 and not is_proof(root)
-        found += [(str(it.relative_to(root) if is_above else it), it) for it in folders_below(root) if is_proof(it)]
+        is_above = len(names) == 1 and not is_proof(root, searches)
+        found += [(str(it.relative_to(root) if is_above else it), it) for it in folders_below(root) if is_proof(it, searches)]
     if not found:
-        raise Refused(f"no folder below {', '.join(names)} has a model, and a strategy or a term")
+        raise Refused(f"no folder below {', '.join(names)} has a model{'' if searches else ', and a strategy or a term'}")
     own = Path().resolve().name
     taken = {name for name, _ in found}
     return sorted({(one_line(own if name == "." and own not in taken else name), folder) for name, folder in found})
@@ -165,6 +168,7 @@ class Crew:
         """The line of one proof."""
         name, folder = proof
         options = [f"--one={name}", f"--seconds={self.options.seconds}", f"--dlk={self.options.dlk}"]
+        options += ["--search"] if self.options.search else []
         words = [sys.executable, "-m", "dlkt", "batch", *options, "--", str(folder)]
         pipes: dict[str, Any] = {"stdin": subprocess.DEVNULL, "stdout": subprocess.PIPE, "stderr": subprocess.PIPE}
         with subprocess.Popen(words, start_new_session=True, **pipes) as process:
@@ -204,9 +208,27 @@ def interrupt(process: "subprocess.Popen[bytes]") -> None:
 def one(name: str, folder: Path, options: argparse.Namespace) -> Row:
     """The line of the proof in a folder, in a process of the crew. Its leaves are asked one at a time: its fellows are at work, too."""
     try:
-        return looked_at(name, files_of(folder), Options(options.dlk, options.seconds, 1))
+        files = with_search(folder, options.dlk) if options.search else files_of(folder)
+        return looked_at(name, files, Options(options.dlk, options.seconds, 1))
     except Refused as why:
         return unknown(name, str(why))
+
+
+def with_search(folder: Path, program: str) -> Mapping[str, bytes]:
+    """The files of a proof, with a strategy that is found where there is none, and a plain one for a sketch. Refused where none is found."""
+    from dlkt.search.proofs import by_search, by_sketch
+    model = str(folder / "model")
+    if not any(os.path.lexists(folder / name) for name in ("strategy", "term")):
+        found = by_search(model, program)
+    else:
+        files = files_of(folder)
+        if "strategy" not in files:
+            return files
+        found = by_sketch(model, Source(str(folder / "strategy"), files["strategy"]), program)
+    if not isinstance(found, Source):
+        raise Refused(f"no proof is found: {'; '.join(line.strip() for line in found)}")
+    kind = Kind.TERM if found.data.startswith(TERM_BEGINS) else Kind.STRATEGY
+    return {"model": read_bytes(model), str(kind): found.data}
 
 
 # Many proofs, each a task of a Dask scheduler
@@ -329,6 +351,7 @@ def add_words(parser: argparse.ArgumentParser) -> None:
     """The words of the command."""
     parser.add_argument("folders", nargs="+", metavar="FOLDER")
     parser.add_argument("-j", dest="jobs", type=count, default=os.cpu_count() or 1, metavar="N", help="so many at a time")
+    parser.add_argument("--search", action="store_true", help="search for a strategy where a folder has none")
     parser.add_argument("--dask", metavar="ADDRESS", help="hand the proofs to the workers of this Dask scheduler")
     parser.add_argument("--against", metavar="TABLE", help="say what changed since this table was printed")
     parser.add_argument("--seconds", type=seconds, default=20, metavar="N", help="for each leaf and solver (20)")
@@ -346,8 +369,10 @@ def run(options: argparse.Namespace) -> int:
         signal.signal(signal.SIGINT, signal.default_int_handler)
         print(json.dumps(one(options.one, Path(options.folders[0]), options)))
         return 0
+    if options.search and options.dask:
+        raise Refused("--search and --dask don't go together")
     before = rows_in(options.against) if options.against else None
-    proofs = proofs_below(options.folders)
+    proofs = proofs_below(options.folders, options.search)
     if not options.dask and not there():
         print("dlkt batch: no solver is there, so no leaf is asked: install z3 or cvc5", file=sys.stderr)
     rows = rows_by_dask(client_of(options.dask), proofs, options) if options.dask else Crew(options).rows(proofs)

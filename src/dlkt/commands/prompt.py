@@ -3,7 +3,8 @@
     dlkt prompt MODEL [SCRIPT] [--seconds N] [--dlk PROGRAM]
 
 A line is a strategy, which is run on goal 1, or `apply G STRATEGY` for goal G. Behind each the goals that it left are shown, a formula a line with the
-place by which a strategy names it. SCRIPT is a script of `dlk session`, whose lines are run first. Other lines:
+place by which a strategy names it. The words of sketches (docs/AUTO.md), as `auto`, are turned into plain ones first. SCRIPT is a script of `dlk
+session`, whose lines are run first. Other lines:
 
     undo          takes the last strategy back
     goals         shows all goals
@@ -36,6 +37,8 @@ from typing import Callable, Iterable, Sequence
 from dlkt.layout import laid_out_goal
 from dlkt.leaves import exported_alone, listed
 from dlkt.program import INTERRUPTED, Refused, program_of, seconds
+from dlkt.search.finding import Options, expand_line
+from dlkt.search.sketches import is_sketch
 from dlkt.session import APPLY, Failure, Proof, as_typed, changes
 from dlkt.solvers import Solvers
 from dlkt.trees import text
@@ -45,6 +48,7 @@ COMMANDS = ("apply", "undo", "goals", "suggest", "leaves", "paths", "history", "
 GOES_ON = (";", ",", "|", "<")
 PARTS = re.compile(r'"[^"]*"?|/\*.*?(?:\*/|$)|[()]', re.DOTALL)
 CONTINUED = "... "
+SEARCH_SECONDS = 60.0  # for the words of sketches in a line
 Ask = Callable[[Proof, str], str]
 
 
@@ -216,12 +220,22 @@ class Talk:
         values = f" at {listed(said.values)}" if said.values else ""
         return f"{name}: {said.word}{values}" + (f" ({by})" if by else "")
 
+    def turned(self, goal: int, sketch: str) -> str:
+        """A line with words of sketches, as `auto`, as a plain one."""
+        try:
+            options = Options(SEARCH_SECONDS, program=self.proof.program)
+            return re.sub(r"\s*\n\s*", " ", expand_line(self.proof.goal(goal), sketch, options))
+        except Refused as why:
+            raise Failure([str(why)]) from why
+
     def told_apply(self, line: str, verb: str) -> list[str]:
         """What a strategy makes."""
         found = APPLY.fullmatch(line)
         if verb == "apply" and not found:
             raise Failure(["apply G STRATEGY: the number of a goal, and a strategy"])
         goal, strategy = (int(found[1]), found[2]) if found else (1, line)
+        if is_sketch(strategy):
+            strategy = self.turned(goal, strategy)
         count = self.proof.apply(goal, strategy.encode("utf-8", "surrogateescape").decode("latin-1"))
         return shown_goals(self.proof, goal, count)
 

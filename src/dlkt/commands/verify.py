@@ -1,10 +1,11 @@
 """One verdict on a model and its proof: proves it, asks the guard and the solvers, and says where it fails and what it rests on.
 
-    dlkt verify FILE PROOF [-o TERM] [-j N] [--all-solvers] [--seconds N] [--json] [--watch] [--dlk PROGRAM]
+    dlkt verify FILE [PROOF] [-o TERM] [-j N] [--all-solvers] [--seconds N] [--json] [--watch] [--dlk PROGRAM]
 
-FILE is a model, and PROOF a strategy or a term, which its first bytes tell. The term that a strategy makes is put at TERM only where the strategy
-ends, with goals left or without. A TERM that is an input, by its name, by a link or by another path, is refused, and so is one that holds
-something else than a term. No input is ever written.
+FILE is a model, and PROOF a strategy or a term, which its first bytes tell. A PROOF that is a sketch, with words of `dlkt auto` in it, is turned into
+a plain strategy first; where no PROOF is named one is searched for (docs/AUTO.md), for a minute at most. What is found is judged as any other. The
+term that a strategy makes is put at TERM only where the strategy ends, with goals left or without. A TERM that is an input, by its name, by a link or
+by another path, is refused, and so is one that holds something else than a term. No input is ever written.
 
 Printed are, line by line:
 
@@ -27,7 +28,7 @@ else by the search, and ends with a verdict a line for each entry. The exit stat
 
 The exit status is
     0   verified
-    1   goals are left
+    1   goals are left, or no proof is found
     2   the model or the proof is refused, or the strategy fails
     3   closed, and a leaf isn't valid, or wasn't asked, or a line isn't guarded
     4   nothing is known: the words, a file, the program, or TERM
@@ -47,7 +48,7 @@ from typing import Any, Callable, Sequence
 from dlkt.archive import is_archive, want_lark
 from dlkt.leaves import NOT_ASKED, POWER, WAY_OUT, listed
 from dlkt.program import TERM_BEGINS, Refused, count, numbered, one_line, program_of, put_at, read_bytes, refuse_bad_output, seconds, shown
-from dlkt.verdict import NOTHING_KNOWN, Fault, Guard, Kind, Leaf, Maker, Options, Piece, Proof, Source, Spot, Verdict, counted, is_said_of, verdict_on
+from dlkt.verdict import NOTHING_KNOWN, OPEN, Fault, Guard, Kind, Leaf, Maker, Options, Piece, Proof, Source, Spot, Verdict, counted, is_said_of, verdict_on
 
 MOST_SHOWN = 4  # goals on which a word fails
 LONGEST = 160  # letters of a line that are shown
@@ -270,17 +271,41 @@ def options_of(options: argparse.Namespace) -> Options:
     """How the verdict is found. Refused is a TERM that is an input, or has something else than a term in it."""
     program, old = program_of(options.dlk), None
     if options.output is not None:
-        refuse_bad_output(options.output, (options.file, options.proof, program), TERM_BEGINS, "a term")
+        inputs = [name for name in (options.file, options.proof, program) if name]
+        refuse_bad_output(options.output, inputs, TERM_BEGINS, "a term")
         old = source_of(options.output) if Path(options.output).is_file() else None
     return Options(program, options.seconds, options.jobs, options.all_solvers, old_term=old)
 
 
+def proof_of(options: argparse.Namespace) -> Source | Sequence[str]:
+    """The proof that is judged: the named one; a sketch as a plain strategy, or as a term where lemmas are linked; or a strategy that is found. Else
+    why there is none."""
+    from dlkt.search.proofs import by_search, by_sketch
+    if options.proof is None:
+        return by_search(options.file, options.dlk)
+    named = source_of(options.proof)
+    return by_sketch(options.file, named, options.dlk)
+
+
+def not_found(options: argparse.Namespace, reasons: Sequence[str]) -> int:
+    """Says that no proof is found. The exit status."""
+    if options.json:
+        told = {"model": options.file, "proof": options.proof, "verified": False, "outcome": None, "reasons": ["no proof is found", *reasons]}
+        print(json.dumps({**told, "status": OPEN}), flush=True)
+    else:
+        say_lines([*reasons, "not verified: no proof is found"])
+    return OPEN
+
+
 def once(options: argparse.Namespace) -> int:
     """One verdict, printed. The exit status."""
-    if options.proof is None:
+    if is_archive(options.file, source_of(options.file).data):
         return on_archive(options)
     say: Callable[[Piece], None] = (lambda piece: None) if options.json else (lambda piece: say_lines(lines_of(piece)))
-    verdict = verdict_on(source_of(options.file), source_of(options.proof), options_of(options), say)
+    model, settings, proof = source_of(options.file), options_of(options), proof_of(options)
+    if not isinstance(proof, Source):
+        return not_found(options, proof)
+    verdict = verdict_on(model, proof, settings, say)
     put = put_term(verdict, options.output)
     if options.json:
         print(json.dumps(as_object(verdict, put)), flush=True)
@@ -291,8 +316,8 @@ def once(options: argparse.Namespace) -> int:
 
 def on_archive(options: argparse.Namespace) -> int:
     """The verdicts on the entries of an archive, printed. The exit status."""
-    if not is_archive(options.file, source_of(options.file).data):
-        raise Refused("no PROOF is named: a strategy, or a term")
+    if options.proof is not None:
+        raise Refused("an archive has its proofs in it: name no PROOF")
     if options.output is not None:
         raise Refused("the entries of an archive have no TERM: dlkt import --prove writes their strategies")
     want_lark()
@@ -356,7 +381,7 @@ EXAMPLE = "dlkt verify examples/tutorial/car/model examples/tutorial/car/strateg
 def add_words(parser: argparse.ArgumentParser) -> None:
     """The words of the command."""
     parser.add_argument("file", metavar="FILE", help="a model, or an archive of KeYmaera X")
-    parser.add_argument("proof", metavar="PROOF", nargs="?", help="a strategy, or a term; none for an archive")
+    parser.add_argument("proof", metavar="PROOF", nargs="?", help="a strategy, a sketch, or a term; else one is searched for")
     parser.add_argument("--entry", metavar="NAME", help="of an archive, this entry alone")
     parser.add_argument("-o", "--output", metavar="TERM", help="where to put the term")
     parser.add_argument("-j", dest="jobs", type=count, default=os.cpu_count() or 1, metavar="N", help="so many leaves at a time")

@@ -13,8 +13,9 @@ from typing import Any
 from dlkt import semantics
 from dlkt.semantics.apart import Apart
 
-START = 0.7  # seconds that the search has before
+START, LATEST = 0.7, 4.0  # seconds of the processor, and of the clock, that the search has before
 SECONDS, ROUNDS = 10, 3
+MOST_WAIT = 40.0  # seconds for its answer, where the search is done
 LOOK = 0.1  # seconds between two looks at whether there is an answer
 EXACT, BY_NUMBERS = "refuted", "refuted by numbers"
 
@@ -25,7 +26,7 @@ class Breaking:
     def __init__(self, model: str, place: Path) -> None:
         self.file = place / "whole"
         self.file.write_text(model + "\n", encoding="latin-1")
-        self.begin, self.looked = time.time(), 0.0
+        self.begin, self.begin_here, self.looked = time.time(), time.process_time(), 0.0
         self.apart: Apart | None = None
         self.told: Mapping[str, Any] | None = None
         self.is_off = not semantics.is_there()
@@ -40,12 +41,13 @@ class Breaking:
         if self.apart is not None:
             self.apart.stop()
 
-    def look(self) -> bool:
-        """Whether an exact run is known by now. It is started here where the search takes its time."""
+    def look(self, elsewhere: float) -> bool:
+        """Whether an exact run is known by now. It is started here where the search takes its time: here, and the told seconds elsewhere."""
         now = time.time()
-        if self.told is None and not self.is_off and now - self.begin > START and now - self.looked > LOOK:
+        if self.told is None and not self.is_off and now - self.looked > LOOK:
             self.looked = now
-            self.start()
+            if time.process_time() - self.begin_here + elsewhere > START or now - self.begin > LATEST:
+                self.start()
             self.take(0.0)
         return self.told is not None and self.told.get("status") == EXACT
 
@@ -53,7 +55,7 @@ class Breaking:
         """Waits for the answer, up to a time."""
         self.start()
         if self.told is None:
-            self.take(max(0.0, min(end - time.time(), SECONDS + 5.0)))
+            self.take(max(0.0, min(end - time.time(), MOST_WAIT)))
 
     def take(self, seconds: float) -> None:
         """Takes the answer where it comes within so many seconds."""

@@ -188,7 +188,8 @@ def completions(field: Field, term: Tree) -> list[Tree]:
     if len(field) > 5 or len(constants) > 6 or any(not name.endswith("()") for name in constants):
         return []
     outer: list[Monomial] = [(), *(((name, 1),) for name in constants)]
-    unknowns = [monomial_product(one, other) for one in monomials(field, 2) for other in outer]
+    squares_last = sorted(monomials(field, 2), key=len, reverse=True)  # those are chosen before mixed terms
+    unknowns = [key for one in squares_last for other in outer for key in [monomial_product(one, other)] if key not in mine]
     rows: dict[Monomial, Row] = {}
     for column, one in enumerate([mine, *({key: Fraction(1)} for key in unknowns)]):
         for key, value in polynomial_slope(one, slopes).items():

@@ -17,7 +17,7 @@ from dlkt.search.kernel import Failed, Goal, Kernel
 from dlkt.search.lemmas import Lemma
 from dlkt.search.shapes import proved
 from dlkt.search.sketches import expand
-from dlkt.search.solver import Solver
+from dlkt.search.solver import SECOND, Solver
 
 SECONDS = 60.0
 AFTER = 20.0  # seconds for a partial strategy behind the bound
@@ -71,29 +71,25 @@ class Found(NamedTuple):
 
 
 def source_of(path: str, program: str) -> str:
-    """The text of a model. Refused in one line where it can't be read."""
+    """The text of a model that the program takes. Refused in one line where it can't be read, or passes a limit."""
     source = read_bytes(path).decode("latin-1")
-    try:
-        model(source)
-    except (Wrong, RecursionError):
-        refuse_model(path, source, program)
-    return source
-
-
-def refuse_model(path: str, source: str, program: str) -> None:
-    """Refuses a model as the program does, with its place."""
     kernel = Kernel(program)
     try:
         status, said = kernel.run(source, "nil")
     finally:
         kernel.stop()
+    first = one_line(said.split("\n", 1)[0].replace(kernel.folder.name + "/", "")) or "the program says nothing"
     refusal = refusal_in(said)
-    if status in (0, 1):
-        raise Refused(f"{path}: this model is too deep for the search")
-    if refusal is None:
-        raise Refused(f"{path}: {one_line(said.splitlines()[0] if said else 'refused')}")
-    place = position(source, refusal.byte)
-    raise Refused(f"{path}:{place.line}:{place.column}: {refusal.why or refusal.what}: the model can't be read here")
+    if status not in (0, 1) and refusal is not None:
+        place = position(source, refusal.byte)
+        raise Refused(f"{path}:{place.line}:{place.column}: {refusal.why or refusal.what}: the model can't be read here")
+    if status not in (0, 1):
+        raise Refused(f"{path}: {first}")
+    try:
+        model(source)
+    except (Wrong, RecursionError) as fault:
+        raise Refused(f"{path}: the model is too deep, or can't be read by the search") from fault
+    return source
 
 
 def notes_wanted(notes: list[Note], wanted: Annotations) -> list[Note]:
@@ -115,7 +111,7 @@ class Finder:
         self.search = Search(self.kernel, self.solver, notes_wanted(notes, options.annotations), options.seconds, proved)
         self.search.guess = options.guess
         self.breaking = Breaking(source, Path(self.kernel.folder.name))
-        self.search.is_broken = self.breaking.look
+        self.search.is_broken = lambda: self.breaking.look(self.search.work() / SECOND)
         self.lemmas: list[Lemma] = []
         self.was_interrupted = False
 
