@@ -12,10 +12,9 @@ last one is set against metamath. `metamath` and `set.mm` are those of Debian's 
 """
 import pathlib
 import re
-import sys
 import tempfile
 
-from common import PROGRAM, TOP, converted, knows, measured, measurer
+from common import PROGRAM, TOP, converted, knows, measured, measurer, words_of
 
 LEMMA = TOP / "examples" / "increment"
 SET_MM = pathlib.Path("/usr/share/metamath/databases/set.mm")
@@ -103,7 +102,7 @@ def rates_of(program, version=1):
 
 def main():
     """Times each program, and metamath."""
-    for program in [pathlib.Path(word) for word in sys.argv[1:]] or [PROGRAM]:
+    for program in [pathlib.Path(word) for word in words_of(__doc__, "PROGRAM")] or [PROGRAM]:
         print(program)
         rates = rates_of(program)
         if knows("convert", program):
@@ -112,7 +111,8 @@ def main():
         size = SET_MM.stat().st_size
         seconds, peak = spent(["metamath", f"read '{SET_MM}'", "verify proof *", "exit"], "All proofs in the database were verified")
         print(f"metamath on set.mm, {size} bytes: {size / seconds / 1e6:.2f} million bytes a second, peak {peak / size:.0f} bytes a byte")
-        print(f"dlk on 100,000 lines reads {rates[100_000] * seconds / size:.1f} times the bytes a second, on 400,000 long lines {rates[400_000] * seconds / size:.1f} times")
+        short, long = (rates[lines] * seconds / size for lines in (100_000, 400_000))
+        print(f"dlk on 100,000 lines reads {short:.1f} times the bytes a second, on 400,000 long lines {long:.1f} times")
     else:
         print("metamath: set.mm is not there")
 

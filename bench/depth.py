@@ -106,7 +106,7 @@ def replaying():
     narrow = ", ".join(["x>=0"] * (SIDE - 60))
     sequent = f"{wide}, {narrow} ==> {wide}, {narrow}"
     yield Row("check of a leaf that is wide and deep", "check", ("true", f"1 leaf {sequent}\ndone\n"), 2, "refused: other-conclusion 1")
-    term = f"1 start ==> true\n2 apply 1 1 cut(x>=0)\n3 apply 2 1 closeTrue(1)\n4 apply 3 1 closeTrue(1)\ndone\n"
+    term = "1 start ==> true\n2 apply 1 1 cut(x>=0)\n3 apply 2 1 closeTrue(1)\n4 apply 3 1 closeTrue(1)\ndone\n"
     yield Row("smt without leaves", "smt", ("true", term), 0)
 
 

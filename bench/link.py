@@ -4,9 +4,10 @@
     python3 bench/link.py [PROGRAM]
     python3 bench/link.py --gallery [PROGRAM]     a table of what `trim` saves of each proof of the gallery and of the recipes
 
-First terms of up to 400,000 lines are trimmed: of one real proof that is done anew and merged again and again, as in bench/check.py, so that most steps are said
-again; the same, of which nothing needs the first half; and a chain in which each step equals the one before but for its number, so that all are needed. Then two terms are linked, of which the
-first has one goal, or 256 equal ones. Times are those of the processor, the least of three runs, turn by turn with `check` of the same terms. Behind
+First terms of up to 400,000 lines are trimmed: of one real proof that is done anew and merged again and again, as in bench/check.py, so that most steps
+are said again; the same, of which nothing needs the first half; and a chain in which each step equals the one before but for its number, so that all
+are needed. Then two terms are linked, of which the first has one goal, or 256 equal ones.
+Times are those of the processor, the least of three runs, turn by turn with `check` of the same terms. Behind
 each number stands what was aimed at.
 
 It needs a C compiler, and a program that is built as `./dlk` builds it: that of DLK, or the one that is named.

@@ -11,11 +11,10 @@ by turn: the last one is set against the first and against metamath. `metamath` 
 metamath-databases.
 """
 import pathlib
-import sys
 import tempfile
 
 from check import SET_MM, shifted, spent
-from common import PROGRAM, TOP, answer, steps_of
+from common import PROGRAM, TOP, answer, steps_of, words_of
 
 GALLERY = TOP / "examples" / "gallery"
 COUNT = 10
@@ -82,14 +81,15 @@ def measured_proving(program, pairs, folder):
 
 def main():
     """Measures each program, and metamath."""
-    programs = [pathlib.Path(word) for word in sys.argv[1:]] or [PROGRAM]
+    programs = [pathlib.Path(word) for word in words_of(__doc__, "PROGRAM")] or [PROGRAM]
     with tempfile.TemporaryDirectory() as name:
         pairs = longest_terms(programs[-1], pathlib.Path(name))
         rates = measured_all(programs, "as it is", pairs)
         long_rates = measured_all(programs, "again and again", [(model, repeated(term)) for model, term in pairs])
         measured_proving(programs[-1], pairs, pathlib.Path(name))
     if len(programs) > 1:
-        print(f"the last program is {rates[programs[-1]] / rates[programs[0]]:.2f} and {long_rates[programs[-1]] / long_rates[programs[0]]:.2f} times as fast as the first")
+        once, again = (of[programs[-1]] / of[programs[0]] for of in (rates, long_rates))
+        print(f"the last program is {once:.2f} and {again:.2f} times as fast as the first")
     if not SET_MM.exists():
         print("metamath: set.mm is not there")
         return

@@ -5,9 +5,9 @@
 
 The proofs are the ten longest of the gallery, whose terms of version 1 stand below bench/data/version_1; `convert` makes those of version 2. Each is
 checked in both versions, turn by turn, the least of nine runs, less what `check` of a smallest term takes, which is the start of the program;
-then in one file again and again, so that the start says little. Where valgrind is there, its instructions are counted (`--tool=callgrind`), which other work on the machine doesn't
-change. Then come the time of `convert` against that of `check`, the growth from 10,000 to 100,000 lines, the memory above that of the smallest run, and
-the bytes a second against those of `metamath` on its database `set.mm`. Behind each number stands what was aimed at.
+then in one file again and again, so that the start says little. Where valgrind is there, its instructions are counted (`--tool=callgrind`), which
+other work on the machine doesn't change. Then come the time of `convert` against that of `check`, the growth from 10,000 to 100,000 lines, the memory
+above that of the smallest run, and the bytes a second against those of `metamath` on its database `set.mm`. Behind each number stands what was aimed at.
 
 It needs a C compiler, and a program that is built as `./dlk` builds it: that of DLK, or the one that is named.
 """
@@ -15,11 +15,10 @@ import pathlib
 import re
 import shutil
 import subprocess
-import sys
 import tempfile
 
 from check import SET_MM, spent, term as long_term
-from common import PROGRAM, TOP, converted, knows, measured, measurer, steps_of
+from common import PROGRAM, TOP, converted, knows, measured, measurer, steps_of, words_of
 from real import repeated
 
 STORED = TOP / "bench" / "data" / "version_1"
@@ -133,7 +132,8 @@ def growing(bench):
 
 def main():
     """Prints all of it."""
-    program = pathlib.Path(sys.argv[1]).resolve() if len(sys.argv) > 1 else PROGRAM
+    named = words_of(__doc__, "PROGRAM")
+    program = pathlib.Path(named[0]).resolve() if named else PROGRAM
     if not knows("convert", program):
         raise SystemExit(f"versions.py: {program} doesn't know `convert`")
     with tempfile.TemporaryDirectory() as name:

@@ -1,7 +1,7 @@
 #!/usr/bin/env python3
 """Lists what stands word for word in several files of definitions and proofs.
 
-    python3 tools/copies.py [--least LINES] [FOLDER]
+    python3 dev/copies.py [--least LINES] [FOLDER]
 
 A lemma or a definition is a signature with the clauses behind it, at the left edge, in a module or behind `where`. That one is public and another
 isn't makes no difference, nor how far it is indented. For each that stands in several files of `crates/*/specs` and `crates/*/proofs` below the
@@ -18,7 +18,7 @@ import re
 import sys
 from collections import defaultdict
 from pathlib import Path
-from typing import NamedTuple
+from typing import Iterator, NamedTuple
 
 TOP = Path(__file__).resolve().parent.parent
 SIGNATURE = re.compile(r"( *)(?:(?:pub|abbrev) )*([A-Za-z_][\w'-]*)\s*:\s")
@@ -34,17 +34,17 @@ class Place(NamedTuple):
     last: int
     public: bool
 
-    def is_in(self, other):
+    def is_in(self, other: "Place") -> bool:
         """Whether it is a part of another one."""
         return self.file == other.file and other.first <= self.first and self.last <= other.last and self != other
 
 
-def belongs(line, depth, name):
+def belongs(line: str, depth: int, name: str) -> bool:
     """Whether a line is one of a lemma of this name that stands so far to the right."""
     return line.startswith(" " * (depth + 1)) or line[depth:].split(" ")[0] == name and not line[:depth].strip()
 
 
-def blocks(text):
+def blocks(text: str) -> Iterator[tuple[str, int, int, bool]]:
     """Each lemma and definition of a file, but for what belongs to a goal: its signature and clauses, the first and the last line, and whether it is
     public."""
     lines = text.split("\n")
@@ -60,9 +60,9 @@ def blocks(text):
             yield block, at, end, bool(PUBLIC.match(line))
 
 
-def copies(folder):
+def copies(folder: Path) -> dict[str, list[Place]]:
     """What stands in several files below a folder, each with its places, but for what is part of a longer one."""
-    found = defaultdict(list)
+    found: dict[str, list[Place]] = defaultdict(list)
     for part in ("specs", "proofs"):
         for file in sorted(folder.glob(f"crates/*/{part}/**/*.antt")):
             if "declared" not in file.parts:
@@ -73,13 +73,14 @@ def copies(folder):
     return {block: places for block, places in several.items() if not all(any(place.is_in(it) for it in longer) for place in places)}
 
 
-def saving(block, places):
+def saving(block: str, places: list[Place]) -> int:
     """How many lines could go."""
     return (block.count("\n") + 1) * (len(places) - 1)
 
 
-def main():
-    words = argparse.ArgumentParser(description="Lists what stands word for word in several files of definitions and proofs.")
+def main() -> int:
+    """Prints each copy, and the sums."""
+    words = argparse.ArgumentParser(description=__doc__, formatter_class=argparse.RawDescriptionHelpFormatter)
     words.add_argument("folder", nargs="?", type=Path, default=TOP, help="the checkout; none: this one")
     words.add_argument("--least", type=int, default=1, metavar="LINES", help="leave out what has fewer lines")
     given = words.parse_args()

@@ -1,11 +1,11 @@
 #!/usr/bin/env python3
 """Prints docs/DEFINITIONS.md: each definition that the contract of `run` and its premises rest on, in parts, in reading order.
 
-    python3 docs/definitions.py > /tmp/DEFINITIONS.md    prints the document
-    python3 docs/definitions.py --check                  exits 1 where docs/DEFINITIONS.md is not that document
+    python3 dev/definitions.py > /tmp/DEFINITIONS.md    prints the document
+    python3 dev/definitions.py --check                  exits 1 where docs/DEFINITIONS.md is not that document
 
 It reads the clauses of `run` in the code, and follows every word that one of them cites through the files of `specs/`; so it does with the
-clauses of the trait `Desk`. What is reached becomes the rows of the document, with the lines counted. `definitions.json` says the rest:
+clauses of the trait `Desk`. What is reached becomes the rows of the document, with the lines counted. `docs/definitions.json` says the rest:
 the parts, each with its clauses; the sections in reading order, a file of `specs/` each; the sources; and what a definition says where the
 comment above it doesn't do. A definition stands in the first part that needs it.
 
@@ -20,7 +20,7 @@ import re
 import sys
 from dataclasses import dataclass
 from pathlib import Path
-from typing import NamedTuple
+from typing import Any, Iterable, NamedTuple, NoReturn
 
 ROOT = Path(__file__).resolve().parent.parent
 DATA = ROOT / "docs" / "definitions.json"
@@ -54,6 +54,10 @@ CONSTRUCTOR_NAME = re.compile(r"^\s+(\S+) :")
 WORD = re.compile(r"[^\s(){}\[\];,:]+")
 
 
+# what definitions.json has of a section, of a part, or as a whole
+Section = dict[str, Any]
+
+
 class Reference(NamedTuple):
     """A name in a file of definitions or among the types of the code, by its path under the folder."""
 
@@ -62,11 +66,11 @@ class Reference(NamedTuple):
     path: str
     name: str
 
-    def file(self):
+    def file(self) -> str:
         """The file of definitions, without its ending."""
         return self.path.replace(".", "/")
 
-    def rust_type(self):
+    def rust_type(self) -> str:
         """The name of the type of the code: of it, or of the type that has it as a variant or as its test. A constant has its own."""
         if self.path.endswith(CONSTANTS):
             return self.name
@@ -82,15 +86,15 @@ class Definition:
 
     crate: str
     file: str
-    names: tuple
-    code: tuple
+    names: tuple[str, ...]
+    code: tuple[str, ...]
     comment: str
 
-    def body(self):
+    def body(self) -> str:
         """The code without comments."""
         return "\n".join(re.sub(r"--.*", "", line) for line in self.code)
 
-    def constructors(self):
+    def constructors(self) -> list[str]:
         """The names of its cases, where it has a `data`."""
         if not re.search(r"\bdata\b", self.body()):
             return []
@@ -101,23 +105,30 @@ class Definition:
 class SpecFile:
     """A file of `specs/`: its definitions in order and by name, its imported names and its names of modules."""
 
-    definitions: list
-    by_name: dict
-    imports: dict
-    modules: dict
+    definitions: list[Definition]
+    by_name: dict[str, Definition]
+    imports: dict[str, Reference]
+    modules: dict[str, tuple[str, str, str]]
 
 
-def stop(message):
+# a row of the document: what is defined, what it says, its source, and its lines
+Row = tuple[str, str, str, int]
+# a section with its rows in a part, and how many parts before had some of it
+Piece = tuple[Section, list[Row], int]
+Clauses = dict[str, list[Reference]]
+
+
+def stop(message: str) -> NoReturn:
     """Ends the program with a message."""
     sys.exit(f"definitions.py: {message}")
 
 
-def spec_path(crate, file):
+def spec_path(crate: str, file: str) -> str:
     """Where a file of definitions stands, from the root."""
     return f"crates/{crate}/specs/{file}.antt"
 
 
-def read(path):
+def read(path: str) -> str:
     """The text of a file, by its path from the root."""
     if not (ROOT / path).is_file():
         stop(f"there is no {path}")
@@ -127,10 +138,11 @@ def read(path):
 # Reading a file of definitions
 
 
-def paragraphs(text):
+def paragraphs(text: str) -> list[list[str]]:
     """The lines between empty lines. An empty line before an indented one ends no paragraph."""
     lines = text.split("\n")
-    found, current = [], []
+    found: list[list[str]] = []
+    current: list[str] = []
     for number, line in enumerate(lines):
         following = next((later for later in lines[number + 1:] if later.strip()), "")
         if line.strip() or following.startswith(" "):
@@ -141,7 +153,7 @@ def paragraphs(text):
     return found + [current] if current else found
 
 
-def without_modules(text):
+def without_modules(text: str) -> str:
     """The text with what stands in a module without a name as if it stood outside: an empty line behind its head, and no indent."""
     lines, inside = [], False
     for line in text.split("\n"):
@@ -152,12 +164,12 @@ def without_modules(text):
     return "\n".join(lines)
 
 
-def is_code(line):
+def is_code(line: str) -> bool:
     """Whether a line counts: no comment, no import, no head of a module, not empty."""
     return bool(line.strip()) and not line.strip().startswith("--") and not line.startswith(("use ", "pub use ", MODULE_HEAD))
 
 
-def defined_names(code):
+def defined_names(code: tuple[str, ...]) -> tuple[str, ...]:
     """The names that a paragraph defines: its types and functions."""
     is_mutual = code[0].startswith(("abbrev mutual", "mutual"))
     function_name = MUTUAL_FUNCTION_NAME if is_mutual else FUNCTION_NAME
@@ -165,9 +177,9 @@ def defined_names(code):
     return tuple(match.group(1) for match in found if match)
 
 
-def comment_above(paragraph):
+def comment_above(paragraph: list[str]) -> str:
     """The comment in front of a definition. One above imports is that of the file."""
-    comment = []
+    comment: list[str] = []
     for line in paragraph:
         if line.startswith("--"):
             comment.append(line[2:].strip())
@@ -178,9 +190,10 @@ def comment_above(paragraph):
     return " ".join(comment)
 
 
-def imports_of(text):
+def imports_of(text: str) -> tuple[dict[str, Reference], dict[str, tuple[str, str, str]]]:
     """What a file imports: its names, and its names of whole modules with their crates, folders and paths."""
-    imports, modules = {}, {}
+    imports: dict[str, Reference] = {}
+    modules: dict[str, tuple[str, str, str]] = {}
     for crate, folder, path, names, alias in IMPORT.findall(text):
         if alias:
             modules[alias] = (crate, folder, path)
@@ -191,10 +204,11 @@ def imports_of(text):
 
 
 @functools.cache
-def read_spec_file(crate, file):
+def read_spec_file(crate: str, file: str) -> SpecFile:
     """Reads a file of definitions."""
     text = read(spec_path(crate, file))
-    definitions, by_name = [], {}
+    definitions: list[Definition] = []
+    by_name: dict[str, Definition] = {}
     for paragraph in paragraphs(without_modules(text)):
         code = tuple(line for line in paragraph if is_code(line))
         if not code:
@@ -213,26 +227,26 @@ def read_spec_file(crate, file):
 class Walk:
     """All that is reached from some names: definitions with what they refer to, and types of the code."""
 
-    def __init__(self, starts):
+    def __init__(self, starts: list[Reference]) -> None:
         """Follows the words from these references on, each definition once."""
-        self.spec_files = {}
-        self.references = {}
-        self.rust_types = set()
+        self.spec_files: dict[tuple[str, str], SpecFile] = {}
+        self.references: dict[Definition, list[Reference]] = {}
+        self.rust_types: set[tuple[str, str]] = set()
         self.follow(starts)
 
-    def follow(self, starts):
+    def follow(self, starts: list[Reference]) -> None:
         """Follows the words from these references on, too."""
         pending = list(starts)
         while pending:
             pending += self.visit(pending.pop())
 
-    def spec_file(self, crate, file):
+    def spec_file(self, crate: str, file: str) -> SpecFile:
         """A file of definitions, read once."""
         if (crate, file) not in self.spec_files:
             self.spec_files[crate, file] = read_spec_file(crate, file)
         return self.spec_files[crate, file]
 
-    def visit(self, reference):
+    def visit(self, reference: Reference) -> list[Reference]:
         """Notes what is referred to, and answers what that refers to in turn, where it is new."""
         if reference.folder != SPECS:
             stop(f"{reference.name} is reached, but stands in crates/{reference.crate}/{reference.folder}/{reference.file()}.antt")
@@ -251,7 +265,7 @@ class Walk:
         self.references[definition] = references_of(definition, spec_file)
         return self.references[definition]
 
-    def home(self, reference):
+    def home(self, reference: Reference) -> Reference:
         """Where it stands what is referred to: files that pass it on are gone through."""
         spec_file = self.spec_file(reference.crate, reference.file())
         while reference.name not in spec_file.by_name:
@@ -259,19 +273,19 @@ class Walk:
             spec_file = self.spec_file(reference.crate, reference.file())
         return reference
 
-    def reached_in(self, section):
+    def reached_in(self, section: Section) -> list[Definition]:
         """The definitions of a section's file that are reached, in the order of the file."""
         definitions = self.spec_file(section["crate"], section["file"]).definitions
         return [definition for definition in definitions if definition in self.references]
 
 
-def references_of(definition, spec_file):
+def references_of(definition: Definition, spec_file: SpecFile) -> list[Reference]:
     """What the words of a definition refer to, outside the library."""
     found = [reference_of(word, definition, spec_file) for word in sorted(set(WORD.findall(definition.body())))]
     return [reference for reference in found if reference and reference.crate != LIBRARY]
 
 
-def reference_of(word, definition, spec_file):
+def reference_of(word: str, definition: Definition, spec_file: SpecFile) -> Reference | None:
     """What a word in a definition refers to: something of the same file, an imported name, or one in a module.
 
     An operator stands between its arguments there, whose places its name has.
@@ -288,7 +302,7 @@ def reference_of(word, definition, spec_file):
 # The contract of `run`, and the parts of the document
 
 
-def clauses_of(contract):
+def clauses_of(contract: dict[str, str]) -> Clauses:
     """The clauses of the contract by their names, each with the definitions that it cites."""
     path = f"crates/{contract['crate']}/src/{contract['file']}"
     text = read(path)
@@ -301,13 +315,13 @@ def clauses_of(contract):
     return {name: cited_in(clause, imports) for name, clause in zip(pieces[1::2], pieces[2::2])}
 
 
-def cited_in(text, imports):
+def cited_in(text: str, imports: dict[str, Reference]) -> list[Reference]:
     """The definitions that a text of code cites by imported names, outside the library."""
     words = sorted(set(WORD.findall(text)) & set(imports))
     return [imports[word] for word in words if imports[word].crate != LIBRARY]
 
 
-def premises_of(premises):
+def premises_of(premises: Section) -> list[Reference]:
     """The definitions in which the premises of the contract are said. A contract in the file that is named must cite each."""
     source = f"crates/{premises['crate']}/src/{premises['cited_in']}"
     cited = set(re.findall(r"\w+", read(source)))
@@ -317,7 +331,7 @@ def premises_of(premises):
     return [Reference(premises["crate"], SPECS, premises["file"], name) for name in premises["names"]]
 
 
-def starts_of(part, data, clauses):
+def starts_of(part: Section, data: Section, clauses: Clauses) -> list[Reference]:
     """The names where the walk of a part starts: what its clauses cite, definitions on the way from later clauses, and the premises."""
     starts = [reference for name in part["clauses"] for reference in clauses[name]]
     starts += [Reference(crate, SPECS, file, name) for crate, file, name in part.get("definitions", [])]
@@ -332,17 +346,18 @@ class Part:
     title: str
     introduction: str
     clauses: str
-    definitions: set
-    rust_types: set
+    definitions: set[Definition]
+    rust_types: set[tuple[str, str]]
     alone: Walk
 
 
-def parts_of(data):
+def parts_of(data: Section) -> tuple[list[Part], Walk]:
     """The parts of the document, and the walk through all of them."""
     clauses = clauses_of(data["contract"])
     check_each_clause_once(clauses, data["parts"])
     check_on_the_way(data["parts"], clauses)
-    walk, parts = Walk([]), []
+    walk = Walk([])
+    parts: list[Part] = []
     for number, part in enumerate(data["parts"]):
         starts = starts_of(part, data, clauses)
         definitions, rust_types = set(walk.references), set(walk.rust_types)
@@ -353,7 +368,7 @@ def parts_of(data):
     return parts, walk
 
 
-def check_each_clause_once(clauses, parts):
+def check_each_clause_once(clauses: Clauses, parts: list[Section]) -> None:
     """Stops where a clause of the contract is in no part or in two, and where a part names one that isn't there."""
     named = [name for part in parts for name in part["clauses"]]
     for name in [*clauses, *named]:
@@ -363,7 +378,7 @@ def check_each_clause_once(clauses, parts):
             stop(f"the clause {name} is in {named.count(name)} parts")
 
 
-def check_on_the_way(parts, clauses):
+def check_on_the_way(parts: list[Section], clauses: Clauses) -> None:
     """Stops where a part starts at a definition that the clause which it names doesn't reach."""
     for part in parts:
         reached = Walk([reference for name in clauses_on_the_way(part) for reference in clauses[name]]).references
@@ -372,12 +387,13 @@ def check_on_the_way(parts, clauses):
                 stop(f"the part {part['title']} starts at {name} of {spec_path(crate, file)}, which its clauses do not reach")
 
 
-def clauses_on_the_way(part):
+def clauses_on_the_way(part: Section) -> list[str]:
     """The clauses that a part speaks of: its own, and the later one of which it has a piece."""
-    return part["clauses"] + ([part["piece_of"]] if "piece_of" in part else [])
+    own: list[str] = part["clauses"]
+    return own + ([part["piece_of"]] if "piece_of" in part else [])
 
 
-def shown_clauses(part):
+def shown_clauses(part: Section) -> str:
     """The cell that names the clauses of a part."""
     return ", ".join(f"`{name}`" for name in part["clauses"]) or f"a piece of `{part['piece_of']}`"
 
@@ -385,23 +401,23 @@ def shown_clauses(part):
 # What definitions.json lists in a section
 
 
-def types_of(section):
+def types_of(section: Section) -> list[dict[str, str]]:
     """The types of the code that a section lists."""
     return section.get("types", [])
 
 
-def other_sources_of(section):
+def other_sources_of(section: Section) -> dict[str, str]:
     """The definitions of a section whose source is not that of the section, with their sources."""
     groups = section.get("other_sources", {})
     return {name: source for source, names in groups.items() for name in names}
 
 
-def crate_of(rust_type, section):
+def crate_of(rust_type: dict[str, str], section: Section) -> str:
     """The crate of a type of the code: that of the section, unless the type has its own."""
     return rust_type.get("crate", section["crate"])
 
 
-def is_named(rust_type):
+def is_named(rust_type: dict[str, str]) -> bool:
     """Whether definitions name a type of the code. A model and a member of a trait are seen without their names."""
     return rust_type["start"].startswith(("pub ", "const "))
 
@@ -409,7 +425,7 @@ def is_named(rust_type):
 # The checks
 
 
-def check_all_listed(walk, sections):
+def check_all_listed(walk: Walk, sections: list[Section]) -> None:
     """Stops where something is reached that no section lists."""
     listed_files = {(section["crate"], section["file"]) for section in sections}
     for definition in walk.references:
@@ -421,7 +437,7 @@ def check_all_listed(walk, sections):
         stop(f"the type {name} of {crate} is reached, but no section lists it")
 
 
-def check_all_reached(walk, sections):
+def check_all_reached(walk: Walk, sections: list[Section]) -> None:
     """Stops where something is listed that is not reached."""
     for section in sections:
         place = spec_path(section["crate"], section["file"])
@@ -437,15 +453,15 @@ def check_all_reached(walk, sections):
                 stop(f"the section of {place} lists the type {rust_type['name']}, which is not reached")
 
 
-def check_reading_order(walk, sections):
+def check_reading_order(walk: Walk, sections: list[Section]) -> None:
     """Stops where a definition refers to something of a later section."""
-    places = {(section["crate"], section["file"]): number for number, section in enumerate(sections)}
+    places: dict[tuple[str, ...], int] = {(section["crate"], section["file"]): number for number, section in enumerate(sections)}
     for number, section in enumerate(sections):
         places.update({(crate_of(rust_type, section), "type", rust_type["name"]): number for rust_type in types_of(section)})
     for definition, references in walk.references.items():
         for reference in references:
             if reference.path.startswith((DECLARED, DERIVED)):
-                used = (reference.crate, "type", reference.rust_type())
+                used: tuple[str, ...] = (reference.crate, "type", reference.rust_type())
             else:
                 home = walk.home(reference)
                 used = (home.crate, home.file())
@@ -457,13 +473,13 @@ def check_reading_order(walk, sections):
 # The document
 
 
-def type_label(rust_type):
+def type_label(rust_type: dict[str, str]) -> str:
     """The name of a type of the code, or of a member of a trait, with its file."""
     front = f"`{rust_type['trait']}`: " if "trait" in rust_type else ""
     return f"{front}`{rust_type['name']}` in `src/{rust_type['file']}`"
 
 
-def type_lines(crate, rust_type):
+def type_lines(crate: str, rust_type: dict[str, str]) -> int:
     """How many lines a type of the code has, without documents and attributes."""
     path = f"crates/{crate}/src/{rust_type['file']}"
     lines = read(path).split("\n")
@@ -481,7 +497,7 @@ def type_lines(crate, rust_type):
     return count
 
 
-def saying_of(definition, section):
+def saying_of(definition: Definition, section: Section) -> str:
     """What a definition says: the section's words, or else the comment above it, which is a text of a language where the section says so."""
     name = definition.names[0]
     saying = section.get("sayings", {}).get(name) or comment_saying(definition)
@@ -493,7 +509,7 @@ def saying_of(definition, section):
     return saying.replace("|", "\\|")
 
 
-def comment_saying(definition):
+def comment_saying(definition: Definition) -> str:
     """The comment above a definition as the cell of a table: without its statement in front, and as no sentence."""
     comment = definition.comment
     if comment.startswith(definition.names[0] + " "):
@@ -503,12 +519,12 @@ def comment_saying(definition):
     return comment.removesuffix(".").rstrip(" ")
 
 
-def rows_of(section, part, walk, is_first):
+def rows_of(section: Section, part: Part, walk: Walk, is_first: bool) -> list[Row]:
     """The rows that a part has of a section: what is defined, what it says, its source, and its lines.
 
     Types without a name stand where the section stands first.
     """
-    rows = []
+    rows: list[Row] = []
     for rust_type in types_of(section):
         crate = crate_of(rust_type, section)
         if (crate, rust_type["name"]) in part.rust_types if is_named(rust_type) else is_first:
@@ -522,11 +538,12 @@ def rows_of(section, part, walk, is_first):
     return rows
 
 
-def rows_by_part(parts, sections, walk):
+def rows_by_part(parts: list[Part], sections: list[Section], walk: Walk) -> list[list[Piece]]:
     """Of each part its sections with their rows and how many parts before had some of it, without those of which it has none."""
-    found, pieces = [], [0] * len(sections)
+    found: list[list[Piece]] = []
+    pieces = [0] * len(sections)
     for part in parts:
-        of_part = []
+        of_part: list[Piece] = []
         for number, section in enumerate(sections):
             rows = rows_of(section, part, walk, pieces[number] == 0 and has_definition(section, part, walk))
             if rows:
@@ -537,24 +554,24 @@ def rows_by_part(parts, sections, walk):
     return found
 
 
-def check_introductions(sections, pieces):
+def check_introductions(sections: list[Section], pieces: list[int]) -> None:
     """Stops where a section has more introductions than parts that have some of it."""
     for section, count in zip(sections, pieces):
         if len(introductions_of(section)) > count:
             stop(f"the section of {spec_path(section['crate'], section['file'])} has an introduction for no part")
 
 
-def has_definition(section, part, walk):
+def has_definition(section: Section, part: Part, walk: Walk) -> bool:
     """Whether a part has a definition of a section."""
     return any(definition in part.definitions for definition in walk.reached_in(section))
 
 
-def lines_of(rows):
+def lines_of(rows: list[Row]) -> int:
     """How many lines the definitions of these rows have."""
     return sum(row[-1] for row in rows)
 
 
-def all_lines_of(part, sections):
+def all_lines_of(part: Part, sections: list[Section]) -> int:
     """How many lines all that a part rests on has: its own, and those of earlier parts that it needs."""
     found = sum(len(definition.code) for definition in part.alone.references)
     for section in sections:
@@ -566,26 +583,26 @@ def all_lines_of(part, sections):
     return found
 
 
-def table(header, rows):
+def table(header: tuple[str, ...], rows: Iterable[tuple[object, ...]]) -> list[str]:
     """The lines of a table."""
     cells = [header, *rows]
     lines = ["| " + " | ".join(str(cell) for cell in row) + " |" for row in cells]
     return [lines[0], "|" + "---|" * len(header), *lines[1:]]
 
 
-def introductions_of(section):
+def introductions_of(section: Section) -> list[str]:
     """What is said of a section: one introduction, or one for each of the first parts that have some of it."""
-    said = section["introduction"]
+    said: str | list[str] = section["introduction"]
     return [said] if isinstance(said, str) else said
 
 
-def introduction_of(section, pieces):
+def introduction_of(section: Section, pieces: int) -> str:
     """What is said of a section in a part, where so many parts before had some of it."""
     introductions = introductions_of(section)
     return introductions[pieces] if pieces < len(introductions) else "What no earlier part needs of it."
 
 
-def section_lines(label, section, rows, pieces):
+def section_lines(label: str, section: Section, rows: list[Row], pieces: int) -> list[str]:
     """The lines of a section in a part, with an empty line in front."""
     place = spec_path(section["crate"], section["file"])
     title = section["title"] + (", continued" if pieces else "")
@@ -593,7 +610,7 @@ def section_lines(label, section, rows, pieces):
     return heading + table(("Definition", "It says", "Source", "Lines"), rows)
 
 
-def part_lines(part, sections):
+def part_lines(part: Part, sections: list[Piece]) -> list[str]:
     """The lines of a part, with an empty line in front."""
     lines = ["", f"## {part.letter}. {part.title}", "", part.introduction]
     for number, (section, rows, pieces) in enumerate(sections, 1):
@@ -601,7 +618,7 @@ def part_lines(part, sections):
     return lines
 
 
-def overview(parts, found, sections):
+def overview(parts: list[Part], found: list[list[Piece]], sections: list[Section]) -> list[str]:
     """The table of the parts."""
     rows = []
     for part, of_part in zip(parts, found):
@@ -611,18 +628,18 @@ def overview(parts, found, sections):
     return table(("Part", "Clauses of `run`", "Definitions", "Lines", "It rests on parts", "Lines, with what it needs of these"), rows)
 
 
-def rests_on(part, parts):
+def rests_on(part: Part, parts: list[Part]) -> str:
     """The letters of the other parts of which a part needs something."""
     needed = set(part.alone.references)
     return ", ".join(other.letter for other in parts if other.letter != part.letter and needed & other.definitions)
 
 
-def anchor(part):
+def anchor(part: Part) -> str:
     """The name of a part's heading in links."""
     return re.sub(r"[^\w -]", "", f"{part.letter}. {part.title}".lower()).replace(" ", "-")
 
 
-def front_lines(data, count, lines, parts_table):
+def front_lines(data: Section, count: int, lines: int, parts_table: list[str]) -> list[str]:
     """The lines before the first part."""
     front = ["# Definitions"]
     for paragraph in data["before_parts"]:
@@ -636,7 +653,7 @@ def front_lines(data, count, lines, parts_table):
     return front
 
 
-def document(data):
+def document(data: Section) -> str:
     """The text of docs/DEFINITIONS.md."""
     sections = data["sections"]
     parts, walk = parts_of(data)
@@ -651,25 +668,25 @@ def document(data):
     return "\n".join(lines) + "\n"
 
 
-def first_difference(one, other):
+def first_difference(one: str, other: str) -> int:
     """The number of the first line in which two texts differ."""
     one_lines, other_lines = one.split("\n"), other.split("\n")
     pairs = enumerate(zip(one_lines, other_lines), 1)
     return next((number for number, (left, right) in pairs if left != right), min(len(one_lines), len(other_lines)) + 1)
 
 
-def check_document(text):
+def check_document(text: str) -> None:
     """Stops where docs/DEFINITIONS.md is not this text."""
     if not DOCUMENT.is_file():
         stop("there is no docs/DEFINITIONS.md")
     if DOCUMENT.read_bytes() != text.encode("utf-8"):
         number = first_difference(DOCUMENT.read_bytes().decode("utf-8", "replace"), text)
-        stop(f"docs/DEFINITIONS.md differs from what docs/definitions.py prints, first in line {number}")
+        stop(f"docs/DEFINITIONS.md differs from what dev/definitions.py prints, first in line {number}")
 
 
-def main():
+def main() -> None:
     """Prints the document, or compares it."""
-    parser = argparse.ArgumentParser(description="Prints docs/DEFINITIONS.md.")
+    parser = argparse.ArgumentParser(description=__doc__, formatter_class=argparse.RawDescriptionHelpFormatter)
     parser.add_argument("--check", action="store_true", help="compare with docs/DEFINITIONS.md; exit 1 if they differ")
     arguments = parser.parse_args()
     text = document(json.loads(DATA.read_text(encoding="utf-8")))

@@ -1,12 +1,12 @@
 #!/usr/bin/env python3
 """Tries the wrong bodies of the crates: the prover must refuse each.
 
-    python3 tools/edits.py [NAME ..] [--room FOLDER] [--jobs N] [--table]
-    python3 tools/edits.py [NAME ..] --together
-    python3 tools/edits.py [NAME ..] --look
-    python3 tools/edits.py [NAME ..] --starved [--together | --look]
-    python3 tools/edits.py [NAME ..] --silent [--together | --look]
-    python3 tools/edits.py --consistent [NAME ..] [--room FOLDER] [--jobs N] [--look]
+    python3 dev/edits.py [NAME ..] [--room FOLDER] [--jobs N] [--table]
+    python3 dev/edits.py [NAME ..] --together
+    python3 dev/edits.py [NAME ..] --look
+    python3 dev/edits.py [NAME ..] --starved [--together | --look]
+    python3 dev/edits.py [NAME ..] --silent [--together | --look]
+    python3 dev/edits.py --consistent [NAME ..] [--room FOLDER] [--jobs N] [--look]
 
 An edit is a file that makes the code of a crate wrong. Those that tell most stand in `crates/NAME/must-fail/`, and the gate tries them; the
 others stand in `crates/NAME/edits/`. This tries both, of the named crates or of all that have any, with the files as they stand in this
@@ -25,9 +25,10 @@ Behind the run a line an edit says what came of it:
 
 with the place, and the clause or other condition that is not proved there. `for a limit` stands where the prover gave up without a verdict,
 and `bad` where the edit can't be applied or read, so that it says nothing. Last come the sums by crate; with --table as rows of a table.
-The exit status is 0 where each edit is refused, 1 where one isn't, and 2 where they could not be tried.
+The exit status is 0 where each edit is refused, 1 where one isn't, and 2 where they could not be tried. Of each crate whose wrong bodies were all
+refused a row is written to dev/tried.txt: by that `.ci/run` sees which crates changed since (`dev/tried.py`).
 
-With --together wrong bodies of different functions stand in a crate at the same time, and one check tries all of them: `tools/rounds.py` says
+With --together wrong bodies of different functions stand in a crate at the same time, and one check tries all of them: `dev/rounds.py` says
 why that is the same. It takes a fifth of the time, or less, and is the way to try the edits of a crate that one works on.
 
 With --look nothing is tried: it is only said which edits can't be applied, since the text that they change is gone or stands there twice. That
@@ -37,14 +38,14 @@ With --starved bodies are made and tried in place of those in the folders: in ea
 a function can answer both. One that isn't refused is no fault by itself: an allocation may come first, and want of memory is free then. With
 --look the refusals are only listed, each with its place and the function that it stands in.
 
-With --silent the bodies are those of `tools/silent/NAME/`, of which no clause was thought to speak. One that isn't refused is what
+With --silent the bodies are those of `dev/silent/NAME/`, of which no clause was thought to speak. One that isn't refused is what
 was thought, so the exit status is 1 as a rule; what is refused belongs into `edits/`.
 
-With --consistent the names are those of changes in `tools/consistent/`, or none for all. Each makes one mistake in a definition and in the code
-alike, which no proof sees, and the documents, the examples and the tests have to: `tools/consistent.py` says how they are tried. It takes a build
+With --consistent the names are those of changes in `dev/consistent/`, or none for all. Each makes one mistake in a definition and in the code
+alike, which no proof sees, and the documents, the examples and the tests have to: `dev/consistent.py` says how they are tried. It takes a build
 without proof for each, so many at a time as --jobs says. A line a change says what has seen it:
 
-    box_is_turned: seen by docs/examples.py: README.md: $ ./dlk check examples/first/model examples/first/term
+    box_is_turned: seen by dev/doc_examples.py: README.md: $ ./dlk check examples/first/model examples/first/term
     last_row_is_lost: seen by the test it_is_there of dlk_tests_rules
     nothing_is_wrong: NOT SEEN
 
@@ -64,14 +65,15 @@ import tempfile
 from collections import Counter
 from concurrent.futures import ThreadPoolExecutor
 from pathlib import Path
-from typing import NamedTuple
+from typing import Iterable, NamedTuple
 
 import consistent
 import rounds
+import tried as tried_file
 
 TOP = Path(__file__).resolve().parent.parent
 FOLDERS = ("must-fail", "edits")
-SILENT = TOP / "tools" / "silent"
+SILENT = TOP / "dev" / "silent"
 AHEAD = re.compile(r"rt: \w+(?: proved| NOT PROVED| is kept|: its tests are|: trying its|: \d+ of its)")
 SAID = re.compile(r"rt: must-fail (\w+)/(\S+)\.edit: (.*)")
 PLACE = re.compile(r"\b((?:src|specs|proofs)/\S+?:\d+:\d+)")
@@ -81,6 +83,9 @@ FUNCTION = re.compile(r"\bfn (\w+)")
 FAULTS = re.compile(r"\benum (\w+)[^{;]*\{(.*?)\n\}", re.DOTALL)
 REFUSAL = re.compile(r"\bErr\(\s*(\w+)::(\w+)")
 KINDS = ("refused", "for a limit", "bad", "NOT REFUSED", "not tried")
+
+
+Edits = dict[str, dict[str, Path]]
 
 
 class Refused(Exception):
@@ -95,7 +100,7 @@ class Tried(NamedTuple):
     kind: str
     why: str
 
-    def line(self):
+    def line(self) -> str:
         """The line that tells it."""
         return f"{self.crate}/{self.edit}: {self.kind}{self.why}"
 
@@ -107,23 +112,26 @@ class Starved(NamedTuple):
     function: str
     first: int
     last: int
-    instead: list
+    instead: list[str]
 
     @property
-    def name(self):
+    def name(self) -> str:
         """The name of the body."""
         return f"starved_{'_'.join(self.file.with_suffix('').parts[1:])}_{self.first + 1}"
 
 
-def crates():
+Found = dict[tuple[str, str], Tried]
+
+
+def crates() -> dict[str, list[str]]:
     """The crates of crates.txt, lowest first, each with the libraries of its line."""
     rows = [line.split(":") for line in (TOP / "crates.txt").read_text().splitlines() if ":" in line and not line.startswith("#")]
     return {name.split()[0]: below.split() for name, below in rows}
 
 
-def edits_of(crate, silent=False):
+def edits_of(crate: str, silent: bool = False) -> dict[str, Path]:
     """The edits of a crate by name, or its bodies of which no clause was thought to speak."""
-    found = {}
+    found: dict[str, Path] = {}
     for folder in [SILENT / crate] if silent else [TOP / "crates" / crate / it for it in FOLDERS]:
         for edit in sorted(folder.glob("*.edit")):
             if edit.stem in found:
@@ -132,7 +140,7 @@ def edits_of(crate, silent=False):
     return found
 
 
-def closing(text, at):
+def closing(text: str, at: int) -> int:
     """The place behind the bracket that closes the one at this place."""
     depth = 0
     for place in range(at, len(text)):
@@ -142,15 +150,15 @@ def closing(text, at):
     return len(text)
 
 
-def faults():
+def faults() -> set[str]:
     """The types of faults that have want of memory among their cases."""
     texts = (file.read_text() for name in crates() for file in (TOP / "crates" / name / "src").rglob("*.rt"))
     return {name for text in texts for name, cases in FAULTS.findall(text) if re.search(r"^ *Memory,", cases, re.MULTILINE)}
 
 
-def refusals(crate, types):
+def refusals(crate: str, types: set[str]) -> list[Starved]:
     """The refusals that the functions of a crate answer in an expression, where want of memory is another case of their type."""
-    found = []
+    found: list[Starved] = []
     for file in sorted(it for it in (TOP / "crates" / crate / "src").rglob("*.rt") if "tests" not in it.stem and it.parent.name != "tests"):
         text, taken = file.read_text(), -1
         for it in REFUSAL.finditer(text):
@@ -166,7 +174,7 @@ def refusals(crate, types):
     return found
 
 
-def refusals_of(names):
+def refusals_of(names: list[str]) -> dict[str, list[Starved]]:
     """The refusals of the named crates that have some, or of all, lowest first, without those of tests."""
     for name in names:
         if name not in crates():
@@ -176,7 +184,7 @@ def refusals_of(names):
     return {name: bodies for name, bodies in every.items() if bodies}
 
 
-def starve(room, crate, bodies):
+def starve(room: Path, crate: str, bodies: list[Starved]) -> None:
     """Marks the lines of the refusals in the room's copy of a crate, so that each stands there once, and puts the bodies where the gate finds them."""
     folder = room / "crates" / crate / "must-fail"
     shutil.rmtree(folder, ignore_errors=True)
@@ -191,7 +199,7 @@ def starve(room, crate, bodies):
         (folder / f"{body.name}.edit").write_text(edit)
 
 
-def list_starved(every):
+def list_starved(every: dict[str, list[Starved]]) -> None:
     """Prints the refusals, and how many there are."""
     for crate, bodies in every.items():
         for it in bodies:
@@ -199,7 +207,7 @@ def list_starved(every):
     print(f"{sum(map(len, every.values()))} refusals in {sum(map(bool, every.values()))} crates")
 
 
-def chosen(names, silent=False):
+def chosen(names: list[str], silent: bool = False) -> Edits:
     """The edits that are tried, by crate, lowest first: of the named crates that have some, or of all."""
     every = crates()
     for name in names:
@@ -209,9 +217,10 @@ def chosen(names, silent=False):
     return {name: edits for name, edits in found.items() if edits}
 
 
-def with_those_below(names):
+def with_those_below(names: Iterable[str]) -> list[str]:
     """The crates and all that they stand on, lowest first."""
-    every, found, left = crates(), set(), list(names)
+    every, left = crates(), list(names)
+    found: set[str] = set()
     while left:
         name = left.pop()
         if name in every and name not in found:
@@ -220,12 +229,12 @@ def with_those_below(names):
     return [name for name in every if name in found]
 
 
-def room_of(folder, kind="edits"):
+def room_of(folder: str | None, kind: str = "edits") -> Path:
     """The folder of the copy, made where it isn't there. One that isn't ours is refused."""
     room = Path(folder or Path(tempfile.gettempdir()) / f"dlk-{kind}.{os.getuid()}").absolute()
     if room == TOP or TOP in room.parents:
         raise Refused(f"{room} lies in this checkout, where the gate would find it: name a folder outside")
-    mark = room / f"of-tools-{kind}"
+    mark = room / f"of-dev-{kind}"
     if room.exists() and (not mark.exists() or room.stat().st_uid != os.getuid()):
         raise Refused(f"{room} is there, and not made by this script")
     room.mkdir(mode=0o700, parents=True, exist_ok=True)
@@ -233,7 +242,15 @@ def room_of(folder, kind="edits"):
     return room
 
 
-def copy(room, edits):
+def remove(path: Path) -> None:
+    """Removes a file or a folder."""
+    if path.is_dir():
+        shutil.rmtree(path)
+    else:
+        path.unlink()
+
+
+def copy(room: Path, edits: Edits) -> None:
     """Puts the crates and what they stand on into the room as they are here, and the edits of the crates where the gate finds them."""
     every = with_those_below(edits)
     for folder in sorted((room / "crates").glob("*")):
@@ -247,7 +264,7 @@ def copy(room, edits):
         for part in copied.glob("*") if copied.is_dir() else ():
             # what was proved there serves again
             if part.name != "out":
-                shutil.rmtree(part) if part.is_dir() else part.unlink()
+                remove(part)
         shutil.copytree(TOP / "crates" / name, copied, ignore=shutil.ignore_patterns("out", *FOLDERS), dirs_exist_ok=True)
     for name, files in edits.items():
         folder = room / "crates" / name / "must-fail"
@@ -257,7 +274,7 @@ def copy(room, edits):
             shutil.copyfile(file, folder / f"{edit}.edit")
 
 
-def told(crate, name, text):
+def told(crate: str, name: str, text: str) -> Tried:
     """What rt says of an edit."""
     if text.startswith("refused"):
         place = PLACE.search(text)
@@ -270,16 +287,27 @@ def told(crate, name, text):
     return Tried(crate, name, kind, "" if kind == "NOT REFUSED" else f": {text.partition(': ')[2]}")
 
 
-def how_in(folder, **more):
-    """How rt is run in a folder: with one stream for all that it says."""
-    return {"cwd": folder, "stdout": subprocess.PIPE, "stderr": subprocess.STDOUT, "stdin": subprocess.DEVNULL, "text": True, "errors": "replace", **more}
+def started_in(folder: Path, words: list[str], more: dict[str, str] | None = None) -> "subprocess.Popen[str]":
+    """A run in a folder, with one stream for all that it says, and more in its environment."""
+    return subprocess.Popen(
+        words, cwd=folder, env={**os.environ, **(more or {})}, stdin=subprocess.DEVNULL, stdout=subprocess.PIPE, stderr=subprocess.STDOUT, text=True,
+        errors="replace",
+    )
 
 
-def tried_by_gate(room, names, jobs):
+def ran_in(folder: Path, *words: str) -> tuple[int, str]:
+    """How a run in a folder ends, and what it said."""
+    with started_in(folder, list(words)) as run:
+        said, _ = run.communicate()
+    return run.returncode, said
+
+
+def tried_by_gate(room: Path, names: list[str], jobs: int) -> Found:
     """Tries the edits of the crates by the gate of these crates, so many at a time, and gives what came of each. It tells on the way how far it is."""
-    found, last = {}, "rt said nothing"
-    with subprocess.Popen(["rt", "ci", *names], env={**os.environ, "RT_JOBS": str(jobs)}, **how_in(room)) as run:
-        for line in map(str.rstrip, run.stdout):
+    last = "rt said nothing"
+    found: Found = {}
+    with started_in(room, ["rt", "ci", *names], {"RT_JOBS": str(jobs)}) as run:
+        for line in map(str.rstrip, run.stdout or ()):
             said, last = SAID.match(line), line or last
             if said:
                 found[said[1], said[2]] = told(said[1], said[2], said[3])
@@ -290,9 +318,9 @@ def tried_by_gate(room, names, jobs):
     return found
 
 
-def sum_of(room, name):
+def sum_of(room: Path, name: str) -> str:
     """A sum of all that the verdicts on a crate's edits come from: its files and edits, what it stands on, and the toolchain."""
-    whole = hashlib.sha256(subprocess.run(["rt", "version"], **how_in(room)).stdout.encode())
+    whole = hashlib.sha256(ran_in(room, "rt", "version")[1].encode())
     for crate in with_those_below([name]):
         folder = room / "crates" / crate
         for file in sorted(it for it in folder.rglob("*") if it.is_file() and it.relative_to(folder).parts[0] != "out"):
@@ -301,7 +329,7 @@ def sum_of(room, name):
     return whole.hexdigest()
 
 
-def tried_alone(room, name):
+def tried_alone(room: Path, name: str) -> list[Tried]:
     """Tries the edits of one crate, and gives what came of each: from a run before, where nothing has changed since."""
     kept, key = room / f"{name}.tried", sum_of(room, name)
     if kept.is_file():
@@ -309,17 +337,17 @@ def tried_alone(room, name):
         if before["of"] == key:
             print(f"{name} is kept: its edits were tried before", file=sys.stderr, flush=True)
             return [Tried(*it) for it in before["tried"]]
-    run = subprocess.run(["rt", "must-fail", name], **how_in(room))
-    every = [told(said[1], said[2], said[3]) for said in map(SAID.match, run.stdout.splitlines()) if said]
+    _, text = ran_in(room, "rt", "must-fail", name)
+    every = [told(said[1], said[2], said[3]) for said in map(SAID.match, text.splitlines()) if said]
     if not every:
-        last = run.stdout.rstrip().rpartition("\n")[2]
+        last = text.rstrip().rpartition("\n")[2]
         raise Refused(f"rt must-fail {name} tried no edit: {last or 'rt said nothing'}")
     kept.write_text(json.dumps({"of": key, "tried": every}))
     print(f"{name}: {len(every)} edits tried", file=sys.stderr, flush=True)
     return every
 
 
-def tried_in_rounds(room, name, jobs):
+def tried_in_rounds(room: Path, name: str, jobs: int) -> list[Tried]:
     """Tries the edits of one crate, many in one check of so many jobs, and gives what came of each: from a run before, where nothing has changed since."""
     folder = room / "crates" / name
     kept, key = room / f"{name}.rounds", sum_of(room, name)
@@ -341,40 +369,42 @@ def tried_in_rounds(room, name, jobs):
     return list(found.values())
 
 
-def prove_below(room, names, jobs):
+def prove_below(room: Path, names: list[str], jobs: int) -> None:
     """Proves what the crates stand on."""
     for name in with_those_below(names):
         if any(name in crates()[it] for it in with_those_below(names)):
-            made = subprocess.run(["rt", "lib", "--jobs", str(jobs)], **how_in(room / "crates" / name))
-            if made.returncode:
-                raise Refused(f"{name} is not proved: {made.stdout.rstrip().rpartition(chr(10))[2]}")
+            status, text = ran_in(room / "crates" / name, "rt", "lib", "--jobs", str(jobs))
+            if status:
+                raise Refused(f"{name} is not proved: {text.rstrip().rpartition(chr(10))[2]}")
             print(f"{name} proved", file=sys.stderr, flush=True)
 
 
-def tried_in_turn(room, names, jobs):
+def tried_in_turn(room: Path, names: list[str], jobs: int) -> Found:
     """Tries the edits of the crates one by one, so many crates at a time, once what they stand on is proved, and gives what came of each."""
     prove_below(room, names, jobs)
     with ThreadPoolExecutor(jobs) as lanes:
         return {(it.crate, it.edit): it for every in lanes.map(lambda name: tried_alone(room, name), names) for it in every}
 
 
-def tried_together(room, names, jobs):
+def tried_together(room: Path, names: list[str], jobs: int) -> Found:
     """Tries the edits of the crates in rounds, one crate at a time, since one that has wrong bodies in it isn't what those above it stand on."""
     prove_below(room, names, jobs)
     return {(it.crate, it.edit): it for name in names for it in tried_in_rounds(room, name, jobs)}
 
 
-def tried(room, edits, jobs, together):
+def tried(room: Path, edits: dict[str, list[str]], jobs: int, together: bool) -> list[Tried]:
     """Tries the edits of the crates, so many at a time, and gives what came of each, in their order."""
     names = list(edits)
-    takes_names = re.search(r"\brt ci \[?NAME", subprocess.run(["rt", "help"], **how_in(room)).stdout)
+    takes_names = re.search(r"\brt ci \[?NAME", ran_in(room, "rt", "help")[1])
     found = (tried_together if together else tried_by_gate if takes_names else tried_in_turn)(room, names, jobs)
     return [found.get((name, edit)) or Tried(name, edit, "not tried", ": rt said nothing of it") for name in names for edit in edits[name]]
 
 
-def fault(crate, edit):
+def fault(crate: str, edit: Path) -> str:
     """Why an edit can't be applied, by the rules of rt: its lines `file:`, `old:` and `new:`, and each old text once in its file."""
-    path, old, texts = "", None, {}
+    path: Path | None = None
+    old: str | None = None
+    texts: dict[Path, str] = {}
     for line in edit.read_text().splitlines():
         word, _, rest = line.partition(":")
         rest = rest.removeprefix(" ")
@@ -384,7 +414,7 @@ def fault(crate, edit):
             old = rest
         elif word == "new":
             if not path or not path.is_file():
-                return f"there is no file {path}"
+                return f"there is no file {path or edit}"
             text = texts.get(path) or path.read_text()
             if not old or text.count(old) != 1:
                 return f"this text stands in {path.name} {text.count(old) if old else 0} times: {old}"
@@ -392,7 +422,7 @@ def fault(crate, edit):
     return "" if texts else "it changes nothing"
 
 
-def look(edits):
+def look(edits: Edits) -> bool:
     """Says which edits can't be applied, and whether there are none."""
     faults = [(name, edit, fault(name, path)) for name, files in edits.items() for edit, path in files.items()]
     for name, edit, why in faults:
@@ -403,13 +433,13 @@ def look(edits):
     return not bad
 
 
-def sums(crate, every):
+def sums(crate: str, every: list[Tried]) -> list[int]:
     """How many edits of a crate came to what."""
     counts = Counter(it.kind for it in every if it.crate == crate)
     return [counts[kind] for kind in KINDS]
 
 
-def tell_sums(names, every, as_table):
+def tell_sums(names: list[str], every: list[Tried], as_table: bool) -> None:
     """Prints the sums by crate, and of all."""
     if as_table:
         print(f"| crate | edits | {' | '.join(KINDS)} |\n|---|{'---|' * (len(KINDS) + 1)}")
@@ -421,12 +451,12 @@ def tell_sums(names, every, as_table):
             print(f"{name}: {sum(of)} edits, " + ", ".join(f"{number} {kind}" for number, kind in zip(of, KINDS) if number or kind == "refused"))
 
 
-def try_consistent(given):
+def try_consistent(given: argparse.Namespace) -> int:
     """Tries the named changes of a definition and of its code together, or all of them."""
     every = consistent.changes()
     for name in given.names:
         if name not in every:
-            raise Refused(f"{name} is no change of tools/consistent")
+            raise Refused(f"{name} is no change of dev/consistent")
     names = list(dict.fromkeys(given.names)) or list(every)
     if given.look:
         return 0 if consistent.look(names) else 1
@@ -435,8 +465,9 @@ def try_consistent(given):
     return 0 if consistent.try_all(room_of(given.room, "consistent"), names, max(1, given.jobs)) else 1
 
 
-def main():
-    words = argparse.ArgumentParser(description="Tries the wrong bodies of the crates: the prover must refuse each.")
+def parser() -> argparse.ArgumentParser:
+    """The parser of the command line."""
+    words = argparse.ArgumentParser(description=__doc__, formatter_class=argparse.RawDescriptionHelpFormatter)
     words.add_argument("names", nargs="*", metavar="NAME", help="a crate; none: all that have edits; with --consistent a change")
     words.add_argument("--room", metavar="FOLDER", help="where the copy of the crates stands")
     words.add_argument("--jobs", metavar="N", type=int, default=len(os.sched_getaffinity(0)), help="how many are tried at a time")
@@ -446,32 +477,43 @@ def main():
     words.add_argument("--starved", action="store_true", help="bodies that answer want of memory in place of a refusal")
     words.add_argument("--silent", action="store_true", help="bodies of which no clause was thought to speak")
     words.add_argument("--consistent", action="store_true", help="changes of a definition and of its code together")
-    given = words.parse_args()
+    return words
+
+
+def try_edits(given: argparse.Namespace) -> bool:
+    """Tries the edits of the named crates, or their bodies that want memory; gives whether all are refused. Of each crate whose own are, a row says so
+    in dev/tried.txt: of its files as they were copied, so that what changes while they are tried isn't tried."""
+    starved = refusals_of(given.names) if given.starved else {}
+    edits = {} if given.starved else chosen(given.names, given.silent)
+    if not edits and not starved:
+        raise Refused("there is nothing to try")
+    if shutil.which("rt") is None:
+        raise Refused("there is no rt on the path: edits are tried with the Rattle toolchain")
+    room = room_of(given.room)
+    rows = [tried_file.row_of(TOP / "crates" / name) for name in edits if not given.silent]
+    copy(room, edits or dict.fromkeys(starved, {}))
+    for name, bodies in starved.items():
+        starve(room, name, bodies)
+    names = {name: list(files) for name, files in edits.items()} or {name: [it.name for it in bodies] for name, bodies in starved.items()}
+    every = tried(room, names, max(1, given.jobs), given.together)
+    print("\n".join(it.line() for it in every), flush=True)
+    tell_sums(list(names), every, given.table)
+    tried_file.put([row for row in rows if all(it.kind in KINDS[:2] for it in every if it.crate == row.crate)])
+    return all(it.kind in KINDS[:2] for it in every)
+
+
+def main() -> int:
+    """Tries what is named, or looks at it."""
+    given = parser().parse_args()
     try:
         if given.silent + given.starved + given.consistent > 1:
             raise Refused("--silent, --starved and --consistent are three ways: name one")
         if given.consistent:
             return try_consistent(given)
-        starved = refusals_of(given.names) if given.starved else {}
         if given.look and given.starved:
-            list_starved(starved)
+            list_starved(refusals_of(given.names))
             return 0
-        edits = {} if given.starved else chosen(given.names, given.silent)
-        if given.look:
-            return 0 if look(edits) else 1
-        if not edits and not starved:
-            raise Refused("there is nothing to try")
-        if shutil.which("rt") is None:
-            raise Refused("there is no rt on the path: edits are tried with the Rattle toolchain")
-        room = room_of(given.room)
-        copy(room, edits or dict.fromkeys(starved, {}))
-        for name, bodies in starved.items():
-            starve(room, name, bodies)
-        edits = edits or {name: [it.name for it in bodies] for name, bodies in starved.items()}
-        every = tried(room, edits, max(1, given.jobs), given.together)
-        print("\n".join(it.line() for it in every), flush=True)
-        tell_sums(list(edits), every, given.table)
-        return 0 if all(it.kind in KINDS[:2] for it in every) else 1
+        return 0 if (look(chosen(given.names, given.silent)) if given.look else try_edits(given)) else 1
     except (Refused, OSError) as why:
         print(f"edits.py: {why}", file=sys.stderr)
         return 2

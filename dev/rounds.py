@@ -12,7 +12,7 @@ import re
 import shutil
 import subprocess
 from pathlib import Path
-from typing import NamedTuple
+from typing import Iterator, NamedTuple
 
 FUNCTION = re.compile(r"^( *)(?:pub(?:\([a-z]+\))? )?(?:const )?fn (\w+)")
 VERDICT = re.compile(r"fn (\S+): (.*)")
@@ -38,10 +38,10 @@ class Body(NamedTuple):
     """A wrong body: its name and its changes."""
 
     name: str
-    changes: list
+    changes: list[Change]
 
     @property
-    def functions(self):
+    def functions(self) -> set[tuple[str, str]]:
         """The functions that it changes, each by file and name, or nothing where it changes more than bodies."""
         found = {(it.file, it.function) for it in self.changes}
         return found if all(file.startswith("src/") and name for file, name in found) else set()
@@ -54,7 +54,7 @@ class Come(NamedTuple):
     why: str
 
 
-def function_at(text, at):
+def function_at(text: str, at: int) -> tuple[str, range]:
     """The name of the function whose body has this place of a text, and its lines, counted from 1."""
     lines, line = text.split("\n"), text.count("\n", 0, at)
     for first in range(line, -1, -1):
@@ -65,9 +65,11 @@ def function_at(text, at):
     return "", range(0)
 
 
-def body_of(folder, name, edit):
+def body_of(folder: Path, name: str, edit: Path) -> Body:
     """Reads an edit, whose old texts stand once in their files, as `edits.py --look` says."""
-    file, old, changes, texts = "", "", [], {}
+    file, old = "", ""
+    changes: list[Change] = []
+    texts: dict[str, str] = {}
     for line in edit.read_text().splitlines():
         word, _, rest = line.partition(":")
         rest = rest.removeprefix(" ")
@@ -82,36 +84,44 @@ def body_of(folder, name, edit):
     return Body(name, changes)
 
 
-def text_of(folder, file, lines):
+def text_of(folder: Path, file: str, lines: range) -> str:
     """Some lines of a file."""
     return "\n".join((folder / file).read_text().split("\n")[lines.start - 1 : lines.stop - 1])
 
 
-def is_apart(folder, body, others):
+def is_apart(folder: Path, body: Body, others: list[Body]) -> bool:
     """Whether a wrong body changes other functions than these do, and neither names the other's."""
     names = {name for it in others for _, name in it.functions}
     mine = {name for _, name in body.functions}
     if names & mine:
         return False
     texts = {it: text_of(folder, it.file, it.lines) for of in (body, *others) for it in of.changes}
-    named = lambda words, changes: any(re.search(rf"\b{word}\b", texts[it]) for word in words for it in changes)
+
+    def named(words: set[str], changes: list[Change]) -> bool:
+        """Whether one of these names stands in the text of a change."""
+        return any(re.search(rf"\b{word}\b", texts[it]) for word in words for it in changes)
+
     return not named(names, body.changes) and not any(named(mine, it.changes) for it in others)
 
 
-def next_round(folder, left, most):
+def next_round(folder: Path, left: list[Body], most: int) -> list[Body]:
     """Wrong bodies that can stand in the crate together, or else the first one alone."""
-    chosen = []
+    chosen: list[Body] = []
     for body in left:
         if body.functions and len(chosen) < most and is_apart(folder, body, chosen):
             chosen.append(body)
     return chosen or left[:1]
 
 
-def linked(folder, to):
+def linked(folder: Path, to: Path) -> None:
     """Copies what a check kept: what was proved by links, since a check replaces such a file and changes none."""
 
-    def copy(one, other):
-        return os.link(one, other) if one.endswith(".oantt") else shutil.copy2(one, other)
+    def copy(one: str, other: str) -> None:
+        """Copies a file, or links it."""
+        if one.endswith(".oantt"):
+            os.link(one, other)
+        else:
+            shutil.copy2(one, other)
 
     shutil.copytree(folder, to, symlinks=True, copy_function=copy)
 
@@ -119,19 +129,21 @@ def linked(folder, to):
 class Crate:
     """A crate in the room, which was proved as it stands."""
 
-    def __init__(self, folder, call):
+    def __init__(self, folder: Path, call: list[str]) -> None:
         self.folder, self.call = Path(folder), call
         self.work, self.seed = self.folder / "out" / "incremental", self.folder / "out" / "incremental-as-it-stands"
 
-    def check(self):
+    def check(self) -> str:
         """Checks the crate as its files are now, over what was proved of it as it stood, and gives what the prover said."""
         if self.seed.is_dir():
             shutil.rmtree(self.work, ignore_errors=True)
             linked(self.seed, self.work)
-        how = {"cwd": self.folder, "stdout": subprocess.PIPE, "stderr": subprocess.STDOUT, "stdin": subprocess.DEVNULL}
-        return subprocess.run(self.call, text=True, errors="replace", **how).stdout
+        run = subprocess.run(
+            self.call, cwd=self.folder, stdin=subprocess.DEVNULL, stdout=subprocess.PIPE, stderr=subprocess.STDOUT, text=True, errors="replace", check=False
+        )
+        return run.stdout
 
-    def prove(self):
+    def prove(self) -> str:
         """Proves the crate as it stands, and keeps that for the rounds. It gives why that can't be, or nothing."""
         shutil.rmtree(self.seed, ignore_errors=True)
         said = self.check()
@@ -141,9 +153,9 @@ class Crate:
             linked(self.work, self.seed)
         return ""
 
-    def check_with(self, bodies):
+    def check_with(self, bodies: list[Body]) -> str:
         """Checks the crate with these wrong bodies in it, and puts its own back."""
-        texts = {}
+        texts: dict[Path, str] = {}
         for change in (it for body in bodies for it in body.changes):
             file = self.folder / change.file
             texts.setdefault(file, file.read_text())
@@ -154,24 +166,24 @@ class Crate:
             for file, text in texts.items():
                 file.write_text(text)
 
-    def end(self):
+    def end(self) -> None:
         """Takes away what was kept for the rounds."""
         if self.seed.is_dir():
             shutil.rmtree(self.work, ignore_errors=True)
             self.seed.rename(self.work)
 
 
-def verdicts(said):
+def verdicts(said: str) -> dict[str, str]:
     """The verdict on each function, by its path."""
-    return dict(it.groups() for it in map(VERDICT.fullmatch, said.split("\n")) if it)
+    return {it[1]: it[2] for it in map(VERDICT.fullmatch, said.split("\n")) if it}
 
 
-def module_of(file):
+def module_of(file: str) -> str:
     """The path of a file's module, as it stands in the path of a function."""
     return "::".join(part for part in Path(file).with_suffix("").parts[1:] if part not in ("lib", "main", "mod"))
 
 
-def own_failure(said, body):
+def own_failure(said: str, body: Body) -> Come | None:
     """Where and why the proof of a function that the body changes fails by itself, or nothing."""
     lines = said.split("\n")
     for path, verdict in verdicts(said).items():
@@ -192,7 +204,7 @@ def own_failure(said, body):
     return None
 
 
-def come_alone(said):
+def come_alone(said: str) -> Come:
     """What came of a body that was tried alone."""
     if "logic=not-proved" in said:
         told = [it for it in said.split("\n") if re.match(r"(?:note: )?(?:\./)?\S+:\d+:\d+: ", it) and ("error" in it or "not proved" in it)]
@@ -209,9 +221,10 @@ def come_alone(said):
     return Come("bad" if re.search(r"\berror\b", first) else "not tried", f": {first[:160]}")
 
 
-def tried_together(crate, bodies, most=24):
+def tried_together(crate: Crate, bodies: list[Body], most: int = 24) -> Iterator[tuple[str, Come]]:
     """Tries the wrong bodies of a crate in rounds, and gives what came of each, by name, as it comes."""
-    left, alone = list(bodies), set()
+    left = list(bodies)
+    alone: set[str] = set()
     while left:
         chosen = next_round(crate.folder, [it for it in left if it.name not in alone], most) or left[:1]
         said = crate.check_with(chosen)

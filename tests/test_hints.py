@@ -2,7 +2,6 @@
 
 import unittest
 
-import helping
 from dlkt import hints, strategies, words
 from helping import BRAKE, CLOSES_BRAKE, Case, PROGRAM, ROOT, needs_program
 

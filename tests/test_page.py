@@ -4,18 +4,37 @@ import hashlib
 import html
 import json
 import re
+import shutil
+import subprocess
 import unittest
 from html.parser import HTMLParser
 from pathlib import Path
 
-import helping
+from helping import BRAKE, CHOICE, CLOSES_BRAKE, CLOSES_CHOICE, CLOSES_INCREMENT, INCREMENT, PROGRAM, ROOT, Case, needs_program
+
 from dlkt.commands import page
 from dlkt.commands import tree as prooftree
 from dlkt import typeset
-from helping import BRAKE, CHOICE, CLOSES_BRAKE, CLOSES_CHOICE, CLOSES_INCREMENT, INCREMENT, PROGRAM, ROOT, Case, needs_program
 from dlkt.program import answer
-from dlkt.terms import readable
+from dlkt.terms import Nodes, readable
+from dlkt.trees import sequent_text
+from dlkt.verdict import Options, Source, verdict_on
 from dlkt.words import made_by, runs_in
+
+ONE_MEGABYTE = 1_000_000
+# Has the scripts of a page run on a document that isn't there, and prints the rows of the tree, and then the lines of the term.
+RUN_SCRIPTS = r"""
+const html = require("fs").readFileSync(process.argv[1], "utf8");
+const script = [...html.matchAll(/<script>([\s\S]*?)<\/script>/g)].map(found => found[1]).join("\n");
+const elements = {};
+const element = id => elements[id] = elements[id] || { style: {}, dataset: {}, classList: { add() {}, remove() {}, toggle() {} }, addEventListener() {} };
+global.addEventListener = () => {};
+elements.texts = { textContent: "{}" };
+global.document = { getElementById: id => id === "fails" ? null : element(id), querySelectorAll: () => [], body: element("body") };
+eval(script + ";for (let k = 1; k < steps.length; k++) console.log(stepText(k));"
+  + "console.log(nodes.map((node, n) => JSON.stringify(rowText(node[TEXT], n ? nodes[parent[n]][TEXT] : 0))).join('\\n'));"
+  + "console.log(nodes.map(node => setSequent(node[TEXT]).replace(/<[^>]*>/g, '')).join('\\n').replace(/&lt;/g, '<').replace(/&gt;/g, '>').length)");
+"""
 
 VOID = {"meta", "input", "br", "wbr", "link", "img"}
 
@@ -51,6 +70,26 @@ def looked_at(text):
 def data_of(text):
     """What the page's script is given."""
     return json.loads(re.search(r"^const data = (\{.*\});$", text, re.MULTILINE)[1])
+
+
+def sequents_of(data):
+    """The texts of the sequents of a page, numbered from 1; dots for a formula that isn't known."""
+    nodes = Nodes()
+    for line in [*data["term"].split("\n"), *data["more"]]:
+        if line.startswith("node "):
+            _, _, word, *rest = line.split(" ", 3)
+            nodes.add(nodes.read(word, f" {rest[0]}" if rest else ""))
+    found = [""]
+    for sides in data["sequents"]:
+        left, right = ([int(number) for number in side.split(",") if number] for side in sides.split("|"))
+        known = all(left + right)
+        found.append(sequent_text(*([nodes.formula(str(number)) for number in side] for side in (left, right))) if known else "\u2026")
+    return found
+
+
+def plain_but_signs(text):
+    """What is copied of a page, with signs of HTML as they are."""
+    return re.sub(r"<[^>]*>", "", text)
 
 
 def plain(marked):
@@ -90,19 +129,34 @@ class Pages(Page):
         for data in (CHOICE.encode(), CLOSES_CHOICE.encode(), term.read_bytes()):
             self.assertIn(hashlib.sha256(data).hexdigest(), said)
         self.assertIn(f"{term.stat().st_size:,}", said)
-        lines = "\n".join(data_of(run.stdout)["lines"][1:]) + "\ndone\n"
-        self.assertEqual(lines, readable(term.read_bytes()))
-        texts = json.loads(re.search(r'id="texts">(.*?)</script>', run.stdout)[1])
-        self.assertEqual(texts.get("term", lines), term.read_text())
+        self.assertEqual(data_of(run.stdout)["term"], term.read_text())
+        self.assertLess(run.stdout.index('id="strategy"'), run.stdout.index('id="leaves"'))
+        self.assertIn("<details><summary>1 leaf, <b>1 of 1 valid</b>", run.stdout)
+        self.assertIn("[{?v+1 &lt;= M(); v := v+1; ++ v := 0;}] v &lt;= M()".replace("{", "").replace("}", ""), plain_but_signs(run.stdout))
 
     def test_the_strategy_with_its_goals(self):
         text = self.made(INCREMENT, CLOSES_INCREMENT).stdout
-        goals = re.findall(r'<div class="goals" id="goals\d+"><h3>(.*?)</h3><p>(.*?)</p>(.*?)</div></div>(?=<div class="goals"|</div>)', text)
-        told = [(word, place, plain(sequent)) for word, place, sequent in goals]
-        self.assertEqual([word for word, _, _ in told], ["implyR(1)", "step(1)", "leaf"])
-        self.assertEqual(told[2][1], "line 1, column 21: it ran on this goal")
-        self.assertEqual(told[1][2], "-1x>=0==>1[x:=x+1;]x>=1")
+        data = data_of(text)
+        sequents, told = sequents_of(data), data["visits"]
+        self.assertEqual([word for word, *_ in told], ["implyR(1)", "step(1)", "leaf"])
+        self.assertEqual(told[2][1:4], [1, 21, 1])
+        self.assertEqual(sequents[told[1][4][0]], "x>=0 ==> [x:=x+1;]x>=1")
         self.assertEqual(text.count('class="atom"'), 3)
+
+    def test_goals_of_words_are_those_of_the_program(self):
+        for example in ("tutorial/car", "fresh", "recipes/ghost_start"):
+            folder = ROOT / "examples" / example
+            files = [Source(name, (folder / name).read_bytes()) for name in ("model", "strategy")]
+            found = page.Found(verdict_on(*files, Options(PROGRAM, 1, 1)), PROGRAM, "it")
+            with page.tempfile.TemporaryDirectory() as place:
+                found.place = Path(place)
+                found.model = folder / "model"
+                wanted = found.goals_before(found.runs[:12])
+            by_byte = {visit.byte: visit for visit in found.visits}
+            for run, goal in wanted.items():
+                at = [one for one in found.runs if one.byte == run.byte].index(run)
+                if at < page.GOALS_SHOWN:
+                    self.assertEqual(sequent_text(*by_byte[run.byte].goals[at]), sequent_text(*goal), run)
 
     def test_a_proof_that_is_not_verified(self):
         self.solver("z3", "sat", "(model (define-fun |v.x| () Real (- 2.0)))")
@@ -110,8 +164,9 @@ class Pages(Page):
         for text in ("not verified", "leaf 1 is false", "at x=-2", "0 of 1 valid"):
             self.assertIn(text, false)
         left = "".join(self.well_made(self.made(INCREMENT, "implyR(1)\n").stdout).said)
-        for text in ("not verified", "1 goal left", "open", "x>=0==>1[x:=x+1;]x>=1"):
+        for text in ("not verified", "1 goal left", "open", "goal 1"):
             self.assertIn(text, left)
+        self.assertIn("x>=0 ==> [x:=x+1;]x>=1", sequents_of(data_of(self.made(INCREMENT, "implyR(1)\n").stdout)))
         parameter = self.made(BRAKE.replace("M()", "M"), CLOSES_BRAKE).stdout
         unguarded = "".join(self.well_made(parameter).said)
         for text in ("not verified", "unguarded line 17: di-not-evolved M", "Made by dI(1), strategy, line 2, column 1"):
@@ -128,11 +183,51 @@ class Pages(Page):
         texts.pop("term", None)  # which is there where it is of version 2
         self.assertEqual(texts, written)
 
+    def test_a_strategy_that_fails(self):
+        run = self.made(INCREMENT, "implyR(1); /* a */\n (step(1); andR(1); leaf);\n close\n")
+        self.assertEqual((run.returncode, run.stderr), (0, ""))
+        said = "".join(self.well_made(run.stdout).said)
+        for text in ("not verified", "the strategy fails", "strategy, line 2, column 12: WrongShape", "it fails on goal 1", "1 open goal"):
+            self.assertIn(text, said)
+        data = data_of(run.stdout)
+        self.assertEqual([[word, *place] for word, *place, _, _ in data["visits"]], [["implyR(1)", 1, 1], ["step(1)", 2, 3]])
+        self.assertIn('<mark id="fails" title="it fails here">andR</mark>', run.stdout)
+        self.assertIn("x>=0 ==> x+1>=1", sequents_of(data))
+
+    def test_a_branch_of_the_wrong_length(self):
+        said = "".join(self.well_made(self.made(INCREMENT, "implyR(1); step(1); <(leaf, leaf)\n").stdout).said)
+        for text in ("the strategy fails", "WrongCount: the branch has 2 parts, and there are 1 goal", "it meets goal 1"):
+            self.assertIn(text, said)
+
+    def test_a_term(self):
+        model, strategy, term = self.file("car", INCREMENT), self.file("strategy", CLOSES_INCREMENT), str(self.folder / "term")
+        answer(PROGRAM, "prove", model, strategy, term)
+        for data in (Path(term).read_bytes(), readable(Path(term).read_bytes()).encode()):
+            run = self.tool("page", model, self.file("proof", data))
+            said = "".join(self.well_made(run.stdout).said)
+            self.assertIn("verified", said)
+            self.assertIn("The proof was given as a term", said)
+            self.assertNotIn("linked", said.partition("strategy")[0])
+            self.assertIn(hashlib.sha256(data).hexdigest(), said)
+            self.assertEqual(data_of(run.stdout)["term"], Path(term).read_text())
+            texts = json.loads(re.search(r'id="texts">(.*?)</script>', run.stdout)[1])
+            self.assertEqual(texts.get("term", Path(term).read_text()), data.decode())
+
+    def test_a_linked_proof(self):
+        model = self.file("car", "(x>=0 -> x>=0)&(x>=0 -> x>=0)\n")
+        outer = self.file("outer", "1 start ==> (x>=0 -> x>=0)&(x>=0 -> x>=0)\n2 apply 1 1 andR(1)\ndone\n")
+        lemma = self.file("lemma", "1 start ==> x>=0 -> x>=0\n2 apply 1 1 implyR(1)\n3 apply 2 1 close(1,1)\ndone\n")
+        linked = str(self.folder / "linked")
+        self.assertEqual(answer(PROGRAM, "link", model, outer, lemma, linked).status, 0)
+        said = "".join(self.well_made(self.tool("page", model, linked).stdout).said)
+        self.assertIn("The proof is a linked one", said)
+        self.assertIn("lines 3 to 5: 2 goals proved with ==>x>=0->x>=0", said.replace(" -> ", "->").replace("==> ", "==>"))
+
     def test_what_is_refused(self):
         target = self.folder / "page.html"
-        run = self.made(INCREMENT, "implyR(1);\n andR(1)\n", "-o", target)
+        run = self.made(INCREMENT, "implyR(1);\n andR(1\n", "-o", target)
         self.assertEqual((run.returncode, run.stdout, run.stderr.count("\n")), (2, "", 1))
-        self.assertIn("strategy:2:2: refused: fails at 12: WrongShape", run.stderr)
+        self.assertIn("strategy:3:1: refused: strategy at 19: syntax", run.stderr)
         self.assertFalse(target.exists())
         model = self.file("car", INCREMENT)
         for name in (model, f"{self.folder}/./car", self.folder / "link"):
@@ -165,10 +260,20 @@ class Pages(Page):
 
 
 class Parts(unittest.TestCase):
-    def test_a_strategy_of_whose_words_nothing_is_known(self):
-        beside = page.strategy(b"implyR(1); close", [])
-        self.assertIn("isn't known", plain(beside))
-        self.assertIn("implyR(1); close", plain(beside))
+    def test_a_strategy_that_is_shortened(self):
+        for source, word, wanted in (
+            ("a(1); b; c", "b", "a(1); nil"),
+            ("a; <(bcd; fgh, e_f(1), g_h) /* i */; j", "fgh", "a; <(bcd; nil, nil   , nil)"),
+            ("(abc | bcd; def) ; ghi", "def", "(abc | bcd; nil)"),
+            ("(abc; bcd) | def; ghi", "bcd", "(abc; nil)"),
+            ("abc; (bcd; <(def, ghi))*3; jkl", "<(", "abc; (bcd; nil         )*3"),
+        ):
+            with self.subTest(source=source):
+                byte = source.index(word)
+                found = page.shortened(source.replace("b;", "bbb;") if word == "b" else source, byte)
+                self.assertEqual(" ".join(found.split()), " ".join(wanted.split()))
+        self.assertIsNone(page.shortened("a; (", 0))
+        self.assertIsNone(page.shortened("abc", 1))
 
 
 class Titles(unittest.TestCase):
@@ -193,9 +298,16 @@ class Typesetting(unittest.TestCase):
 
 
 def units(data):
-    """How many nodes the tree by words has: those of a word that hang together are one."""
-    above = {kid: node for node, row in enumerate(data["nodes"]) for kid in row[5]}
-    words = [row[7] for row in data["nodes"]]
+    """How many nodes the tree by words has: those of a word that hang together are one. Nodes stand in order, each with the number of its kids."""
+    above, waiting = {}, []
+    for node, row in enumerate(data["nodes"]):
+        while waiting and waiting[-1][1] == 0:
+            waiting.pop()
+        if waiting:
+            above[node] = waiting[-1][0]
+            waiting[-1][1] -= 1
+        waiting.append([node, row[4]])
+    words = [row[3] for row in data["nodes"]]
     return sum(node not in above or words[node] < 0 or words[above[node]] != words[node] for node in range(len(words)))
 
 
@@ -211,6 +323,33 @@ class Tree(Case):
         self.assertEqual(len(data["nodes"]), len(drawing.nodes))
         self.assertLess(10, units(data))
         self.assertLessEqual(units(data), 200)
+
+    def test_a_long_proof_has_a_small_page(self):
+        texts = [[re.sub(r"/\*.*?\*/", "", (ROOT / "examples/gallery" / name / file).read_text(), flags=re.DOTALL).strip()
+                  for name in ("robot_safety", "train")] for file in ("model", "strategy")]
+        model = self.file("model", "({}) & ({})\n".format(*texts[0]))
+        strategy = self.file("strategy", "andR(1); <({}, {})\n".format(*texts[1]))
+        self.solver("z3", "unsat")
+        run = self.tool("page", model, strategy)
+        self.assertEqual((run.returncode, run.stderr), (0, ""))
+        self.assertGreater(run.stdout.count("\\n") + 1, 2_600)
+        self.assertLess(len(run.stdout), ONE_MEGABYTE // 2)
+
+    @unittest.skipUnless(shutil.which("node"), "node isn't installed")
+    def test_the_scripts_of_a_page(self):
+        model, strategy, term = self.file("model", CHOICE), self.file("strategy", CLOSES_CHOICE), str(self.folder / "term")
+        answer(PROGRAM, "prove", model, strategy, term)
+        self.solver("z3", "unsat")
+        text = self.tool("page", model, strategy).stdout
+        run = subprocess.run([shutil.which("node"), "-e", RUN_SCRIPTS, self.file("it.html", text)], capture_output=True, text=True, check=False)
+        self.assertEqual(run.stderr, "")
+        lines = run.stdout.split("\n")
+        wanted = readable(Path(term).read_bytes()).split("\n")[:-2]
+        self.assertEqual(lines[: len(wanted)], wanted)
+        rows = [json.loads(line) for line in lines[len(wanted) : len(wanted) + len(data_of(text)["nodes"])]]
+        self.assertEqual(rows[0], ["1: 0<=v&v<=M() -> [?v+1<=M();v:=v+1;++v:=0;]v<=M()", ""])
+        self.assertEqual(rows[1][0], "-1: 0<=v&v<=M()   1: [?v+1<=M();v:=v+1;++v:=0;]v<=M()")
+        self.assertEqual(sum(row == ["1: [v:=v+1;]v<=M()", "-1: 0<=v&v<=M()   -2: v+1<=M()"] for row in rows), 0)
 
     def test_the_script(self):
         model, strategy, term = self.file("model", INCREMENT), self.file("strategy", CLOSES_INCREMENT), str(self.folder / "term")

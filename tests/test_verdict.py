@@ -2,14 +2,16 @@
 
 import json
 import os
+import shutil
 import signal
 import subprocess
 import sys
 import time
 import unittest
+from pathlib import Path
 
-from helping import BRAKE, CHOICE, CLOSES_BRAKE, CLOSES_CHOICE, CLOSES_INCREMENT, Case, INCREMENT, PROGRAM, needs_program
-from dlkt.terms import readable
+from helping import BRAKE, CHOICE, CLOSES_BRAKE, CLOSES_CHOICE, CLOSES_INCREMENT, Case, INCREMENT, PROGRAM, ROOT, needs_program
+from dlkt.terms import lemmas_in, readable
 
 
 class Verdict(Case):
@@ -30,11 +32,11 @@ class Closed(Verdict):
     def test_verified(self):
         self.solver("z3", "unsat")
         self.solver("cvc5", "unknown", version="9.9")
-        run = self.on(INCREMENT, CLOSES_INCREMENT)
+        run = self.on("[x:=1;]x>=1\n", "step(1); leaf")
         self.assertEqual(run.returncode, 0)
         self.assertEqual(
             run.stdout,
-            "closed, 15 lines\nleaf 1: x>=0 ==> x+1>=1\n    z3: valid\nguarded\n"
+            "closed, 14 lines\nleaf 1: ==> 1>=1\n    z3: valid\nguarded\n"
             "verified: closed, guarded, 1 leaf valid. It rests on dlk, docs/SOUNDNESS.md (on paper), z3 1.2.3 (1 of 1 leaf)\n",
         )
 
@@ -174,6 +176,110 @@ class Failing(Verdict):
         self.assertEqual(self.on(b"x>=0 & \xff", "nil").returncode, 2)
         self.assertEqual(self.on(INCREMENT, b"implyR(1); \xff").returncode, 2)
         self.assertEqual(self.on(b"\xef\xbb\xbfx>=0", "nil").stdout.count("byte order mark"), 1)
+
+
+@needs_program
+class Given(Verdict):
+    """A term in place of a strategy."""
+
+    def term(self, model, strategy):
+        """The term that a strategy makes."""
+        names = [self.file("model", model), self.file("made_by", strategy), self.folder / "made"]
+        subprocess.run([PROGRAM, "prove", *names], capture_output=True, check=False)
+        return (self.folder / "made").read_bytes()
+
+    def test_a_term_of_either_version(self):
+        self.solver("z3", "unsat")
+        term = self.term(INCREMENT, CLOSES_INCREMENT)
+        for data in (term, readable(term)):
+            run = self.on(INCREMENT, data)
+            self.assertEqual((run.returncode, run.stdout.split("\n")[0]), (0, "closed, 15 lines"))
+            told = self.told(INCREMENT, data)
+            self.assertEqual((told["kind"], told["strategy"], told["verified"], told["linked"]), ("term", None, True, []))
+
+    def test_a_leaf_of_a_term_that_is_false(self):
+        self.solver("z3", "sat", "((define-fun |v.x| () Real 0.5))")
+        run = self.on(INCREMENT, self.term(INCREMENT, CLOSES_INCREMENT))
+        self.assertEqual((run.returncode, self.last(run)), (3, "not verified: leaf 1 is false"))
+        self.assertNotIn("made it", run.stdout)
+
+    def test_a_term_that_is_not_guarded(self):
+        self.solver("z3", "unsat")
+        run = self.on(BRAKE.replace("M()", "M"), self.term(BRAKE.replace("M()", "M"), CLOSES_BRAKE))
+        self.assertEqual((run.returncode, self.last(run)), (3, "not verified: line 17 isn't guarded"))
+
+    def test_a_wrong_line(self):
+        run = self.on("x>=0 -> x>=0\n", "1 start ==> x>=0 -> x>=0\n2 apply 1 1 implyL(1)\ndone\n")
+        self.assertEqual((run.returncode, self.last(run)), (2, "not verified: the term is refused"))
+        self.assertIn("strategy:2:1: refused: line 2: NoPlace\n    2 apply 1 1 implyL(1)\n    ^\n", run.stdout)
+
+    def test_another_conclusion(self):
+        run = self.on("x>=1 -> x>=1\n", "1 start ==> x>=0 -> x>=0\n2 apply 1 1 implyR(1)\n3 apply 2 1 close(1,1)\ndone\n")
+        self.assertEqual((run.returncode, self.last(run)), (2, "not verified: the term proves something else than the model"))
+
+    def test_line_ends_of_windows(self):
+        run = self.on("x>=0 -> x>=0\n", b"dlk 2\r\nnode 1 var x\r\n")
+        self.assertEqual((run.returncode, self.last(run)), (2, "not verified: the term is refused"))
+        self.assertIn("hint: the term has line ends of Windows", run.stdout)
+
+    def test_a_linked_term(self):
+        self.solver("z3", "unsat")
+        model, goal = "(x>=0 -> x>=0)&(x>=0 -> x>=0)\n", "x>=0 -> x>=0\n"
+        lemma = self.file("lemma", self.term(goal, "implyR(1); close"))
+        term = self.file("term", self.term(model, "andR(1)"))
+        subprocess.run([PROGRAM, "link", self.file("model", model), term, lemma, self.folder / "linked"], capture_output=True, check=False)
+        linked = (self.folder / "linked").read_bytes()
+        for data in (linked, readable(linked)):
+            run = self.on(model, data)
+            self.assertEqual(run.returncode, 0)
+            self.assertIn("linked: lines 3 to 5 are a lemma's, which proves 2 goals with ==> x>=0 -> x>=0\n", run.stdout)
+        self.assertEqual(self.told(model, linked)["linked"], [{"first": 3, "last": 5, "conclusion": "==> x>=0 -> x>=0", "goals": 2}])
+
+    def test_nothing_is_linked_in_the_terms_of_strategies(self):
+        for strategy in sorted(ROOT.glob("examples/*/strategy")):
+            self.assertEqual(lemmas_in(self.term((strategy.parent / "model").read_text(), strategy.read_text())), [], strategy)
+
+    def test_no_proof(self):
+        run = self.tool("verify", self.file("model", INCREMENT))
+        self.assertEqual((run.returncode, run.stderr), (4, "dlkt verify: no PROOF is named: a strategy, or a term\n"))
+
+
+@needs_program
+class Mended(Verdict):
+    """What looks wrong, and what isn't taken, at its own place."""
+
+    def said(self, model, strategy):
+        """What is printed behind the name of the folder."""
+        return self.on(model, strategy).stdout.replace(f"{self.folder}/", "")
+
+    def test_assumptions_that_contradict_each_other(self):
+        if shutil.which("z3") is None:
+            self.skipTest("z3 isn't installed")
+        self.solvers = Path(shutil.which("z3")).parent
+        run = self.on("/* */ v>=0&v<0&[x:=1;]x>0 -> [x:=v;]x>=0\n", "implyR(1)")
+        self.assertIn("model:1:7: hint: what the model assumes can never hold", self.said("/* */ v>=0&v<0 -> [x:=v;]x>=0\n", "implyR(1); step(1); leaf"))
+        self.assertNotIn("can never hold", self.said("v>=0 -> \\forall v (v<0 -> v<=0)\n", "implyR(1)"))
+        self.assertNotIn("can never hold", self.said(INCREMENT, CLOSES_INCREMENT))
+        self.assertIn("can never hold", run.stdout)
+
+    def test_a_bracket_in_quotes(self):
+        said = self.said(INCREMENT, 'implyR(1);\n  cut("(x>=0 & x>1"); close')
+        self.assertIn("strategy:2:19: refused: arguments: the text in quotes doesn't go on here (syntax); the ( at 2:8 has no other one", said)
+        said = self.said(INCREMENT, 'useAt(DC,1,"r(||)~>x>=0)&x>1")')
+        self.assertIn("strategy:1:24: refused: arguments: the text in quotes doesn't go on here (syntax); the ) at 1:24 has no other one", said)
+        self.assertIn("strategy:1:1: refused: arguments: the word takes other arguments", self.said(INCREMENT, "implyR(x)"))
+
+    def test_what_people_write(self):
+        self.assertIn("strategy:1:17: hint: a `;` stands between two parts", self.said(INCREMENT, "implyR(1); close; "))
+        self.assertIn("strategy:1:12: hint: a strategy has no comments with //", self.said(INCREMENT, "implyR(1); // close\nclose"))
+        self.assertIn("strategy:1:1: hint: there is no word auto; the command `dlkt auto MODEL`", self.said(INCREMENT, "auto"))
+        self.assertNotIn("hint", self.said(INCREMENT, 'implyR(1); cut("x>=0 /* ; ) */"); <(nil, nil)'))
+
+    def test_a_variable_beside_a_constant(self):
+        said = self.said("M>0&M()>0&Amax>0&amax()>0 -> [x:=M;]x>=0\n", "implyR(1)")
+        self.assertIn("model:1:5: hint: the model has M and M(): the one is a variable, the other a constant", said)
+        self.assertIn("model:1:11: hint: Amax is used once, and is a variable that nothing says anything of; is amax() meant?", said)
+        self.assertNotIn("hint", self.said("A>0&A>1&a()>0 -> [x:=a();]x>=0\n", "implyR(1)"))
 
 
 @needs_program

@@ -2,9 +2,8 @@
 
 import unittest
 
-import helping
 from dlkt import program as proving
-from dlkt import strategies as strategytext
+from dlkt import strategies
 from dlkt import words
 from helping import BRAKE, CHOICE, CLOSES_BRAKE, CLOSES_CHOICE, Case, PROGRAM, ROOT, needs_program
 
@@ -13,20 +12,20 @@ class Reading(unittest.TestCase):
     def test_the_strategies_of_the_repository(self):
         for path in sorted(ROOT.glob("examples/**/strategy")):
             text = path.read_text(encoding="latin-1")
-            tree = strategytext.read(text)
-            for atom in strategytext.atoms(tree):
+            tree = strategies.read(text)
+            for atom in strategies.atoms(tree):
                 self.assertTrue(text.startswith(atom.name, atom.begin), path)
-                self.assertIs(strategytext.way_to(tree, atom.begin)[-1], atom)
+                self.assertIs(strategies.way_to(tree, atom.begin)[-1], atom)
 
     def test_parts(self):
-        tree = strategytext.read(" a ; <( (b|c) , d(-1.0,'L,\"x,y\")*3 ) ")
-        self.assertEqual([atom.name for atom in strategytext.atoms(tree)], ["a", "b", "c", "d"])
-        self.assertEqual([(it.kind, it.text) for it in strategytext.atoms(tree)[3].arguments], [("place", "-1.0"), ("locator", "'L"), ("text", "x,y")])
+        tree = strategies.read(" a ; <( (b|c) , d(-1.0,'L,\"x,y\")*3 ) ")
+        self.assertEqual([atom.name for atom in strategies.atoms(tree)], ["a", "b", "c", "d"])
+        self.assertEqual([(it.kind, it.text) for it in strategies.atoms(tree)[3].arguments], [("place", "-1.0"), ("locator", "'L"), ("text", "x,y")])
 
     def test_what_is_none(self):
         for text, byte in (("", 0), ("(nil", 4), ("nil;", 4), ("implyR()", 7), ("nil | | nil", 6), ("a)", 1), ("<(a)", 0), ("(" * 70 + "a" + ")" * 70, 64)):
-            with self.assertRaises(strategytext.Wrong) as fault:
-                strategytext.read(text)
+            with self.assertRaises(strategies.Wrong) as fault:
+                strategies.read(text)
             self.assertEqual(fault.exception.byte, byte, text)
 
 

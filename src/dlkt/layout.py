@@ -11,12 +11,13 @@ import re
 from dataclasses import dataclass
 from typing import Iterable, NamedTuple, Sequence, Union
 
-from dlkt import strategies
+from dlkt import reader, strategies
 from dlkt.reader import Note
 from dlkt.strategies import Atom, Branch, Choice, Part, Repeat
-from dlkt.trees import BRACKETS, FORMULA, PROGRAM, ROWS, TERM, Tree, evolves, text, unit_text
+from dlkt.trees import BRACKETS, FORMULA, PROGRAM, ROWS, TERM, Tree, Trees, evolves, text, unit_text
 
 WIDTH = 100
+ENDLESS = 1_000_000_000_000  # the width of a sheet on which nothing is broken
 STEP = 2
 SHORT = 24  # letters of a term that is never broken
 MOST_CHOICE = 48  # letters of a choice that stays on one line
@@ -196,7 +197,7 @@ class Layout:
 
     def term(self, tree: Tree) -> Doc:
         """A term."""
-        if len(text(tree)) <= SHORT:
+        if len(text(tree)) <= SHORT or not tree.kids:
             return text(tree)
         for marks in (SUMS, PRODUCTS):
             if tree.word in marks:
@@ -389,6 +390,12 @@ def laid_out_sequent(left: Iterable[Tree], right: Iterable[Tree], width: int = W
         if sign < 0:
             lines.append(f"{indent}     ==>")
     return lines
+
+
+def laid_out_goal(goal: str, width: int = WIDTH, indent: str = "    ") -> list[str]:
+    """The lines of a goal, given as the text of a sequent."""
+    left, right = reader.sequent(goal, Trees())
+    return laid_out_sequent(left, right, width, indent)
 
 
 # Strategies

@@ -1,4 +1,4 @@
-"""Sets formulas, sequents and models as HTML for the tools' pages.
+"""Sets formulas, models and strategies as HTML for pages.
 
 What is copied from a page is the text as the program reads it: a sign as `≤` is drawn in front of the text `<=`, which is hidden and
 copied all the same.
@@ -6,8 +6,7 @@ copied all the same.
 
 import html
 import re
-
-from dlkt.program import numbered
+from typing import Iterator, Sequence
 
 SIGNS = {
     "<->": "\u2194", "->": "\u2192", "==>": "\u22a2", "<=": "\u2264", ">=": "\u2265", "!=": "\u2260", "&": "\u2227", "|": "\u2228",
@@ -23,7 +22,7 @@ TOKEN = re.compile(
 )
 
 
-def sign(text, before, behind):
+def sign(text: str, before: str, behind: str) -> str:
     """An operator: drawn as a sign, where it has one there."""
     is_star = text == "*" and (before in (":=", "}") or behind in ("]", ";", "@"))
     drawn = None if is_star else SIGNS.get(text)
@@ -32,12 +31,12 @@ def sign(text, before, behind):
     return f'<span class="{kind}">{shown}</span>' + ("<wbr>" if text in APART else "")
 
 
-def tokens(text):
+def tokens(text: str) -> list[tuple[str, str]]:
     """The tokens of a text: the kind and the text of each."""
-    return [(found.lastgroup, found[0]) for found in TOKEN.finditer(text)]
+    return [(found.lastgroup or "", found[0]) for found in TOKEN.finditer(text)]
 
 
-def neighbours(told):
+def neighbours(told: Sequence[tuple[str, str]]) -> Iterator[tuple[str, str, str, str]]:
     """Each token with those beside it that are no blanks."""
     solid = [at for at, (kind, _) in enumerate(told) if kind not in ("blank", "comment")]
     beside = {at: (solid[k - 1] if k else None, solid[k + 1] if k + 1 < len(solid) else None) for k, at in enumerate(solid)}
@@ -46,7 +45,7 @@ def neighbours(told):
         yield kind, text, told[before][1] if before is not None else "", told[behind][1] if behind is not None else ""
 
 
-def formula(text):
+def formula(text: str) -> str:
     """A formula, or any text of the language of models. Programs in boxes are shaded."""
     out, opened = [], 0
     for kind, token, before, behind in neighbours(tokens(text)):
@@ -63,15 +62,3 @@ def formula(text):
         else:
             out.append(html.escape(token) + ("<wbr>" if token in ",;" else ""))
     return "".join(out) + "</span>" * opened
-
-
-def side(formulas):
-    """The formulas of one side of a sequent, with their places."""
-    rows = (f'<div class="formula"><b>{place}</b><code>{formula(text)}</code></div>' for place, text in formulas)
-    return "".join(rows)
-
-
-def sequent(text):
-    """A sequent, a formula a line."""
-    left, right = numbered(text)
-    return f'<div class="sequent">{side(left)}<div class="turnstile"><i data-s="\u22a2">==&gt;</i></div>{side(right)}</div>'

@@ -16,6 +16,7 @@ What is found is an ordinary strategy: `dlkt verify` judges it. Nothing of the s
 
 import argparse
 import contextlib
+import resource
 import signal
 import sys
 import threading
@@ -108,11 +109,15 @@ def refuse_bad_words(options: argparse.Namespace) -> None:
 
 def told(options: argparse.Namespace, result: Found) -> None:
     """Says on standard error how the search ended."""
-    said = f"auto: {result.seconds:.1f} s, {result.questions} questions, {result.calls} calls of the program"
+    used = [resource.getrusage(who) for who in (resource.RUSAGE_SELF, resource.RUSAGE_CHILDREN)]
+    processor = sum(one.ru_utime + one.ru_stime for one in used)
+    said = f"auto: {result.seconds:.1f} s, {processor:.1f} s of processors, {result.questions} questions, {result.calls} calls of the program"
     print(said if result.strategy else f"{said}: no strategy is found", file=sys.stderr)
     if not result.is_whole:
-        for reason in result.reasons[-MOST_REASONS:]:
+        for reason in [] if result.values else result.reasons[-MOST_REASONS:]:
             print(f"auto: {one_line(reason)}", file=sys.stderr)
+        for line in result.values:
+            print(f"auto: {one_line(line)}", file=sys.stderr)
     if options.explain:
         for step in result.story:
             print(f"auto: {step.method}: {one_line(step.why)}\n    at {one_line(step.goal)}", file=sys.stderr)

@@ -1,32 +1,42 @@
 """Writes a page to hand on: one file, for a browser without a network, with all that there is to say of a proof.
 
-    dlkt page MODEL STRATEGY > page.html
-    dlkt page MODEL STRATEGY --output PAGE [--title TITLE] [--seconds N] [--dlk PROGRAM]
+    dlkt page MODEL PROOF > page.html
+    dlkt page MODEL PROOF --output PAGE [--title TITLE] [--seconds N] [-j N] [--dlk PROGRAM]
 
-The page has the model; the verdict of dlkt verify, and what it rests on; the leaves with the answer and the version of each solver
-that is there; what the guard says; the strategy, with the goals on which each of its words ran; the tree of the proof by these words; and
-the three files, with their sizes and hashes. Whoever gets the page can save the files from it, and check them again. A PAGE that is an
-input, or has something else than a page in it, isn't written over.
+PROOF is a strategy, or a term. The page has the model, laid out; the verdict of dlkt verify, and what it rests on; what the guard says; the strategy,
+with the goals on which each of its words ran; the leaves with the answers of the solvers; the tree of the proof by these words; and the files, with
+their sizes and hashes. Whoever gets the page can save the files from it, and check them again. Of a strategy that fails the page ends where it fails:
+it says why and on which goals, and its proof is that of the strategy up to there. Of a term in which lemmas are linked it says which lines are
+theirs. A PAGE that is an input, or has something else than a page in it, isn't written over.
+
+Each formula stands on the page once: what is shown of goals and leaves is made from there, by the page's script.
 
 The exit status is 0 where a page is written, also of a proof that isn't verified, 2 where there is no proof to write of, or none can be
 made, in one line that says why, and 130 behind control-C. Nothing of this is proved, but what the program proves.
 """
 
+import argparse
 import hashlib
 import html
 import os
 import tempfile
 from concurrent.futures import ThreadPoolExecutor
+from functools import cached_property
 from pathlib import Path
-from typing import NamedTuple
+from typing import NamedTuple, Sequence
 
-from dlkt.commands.tree import UNTOLD, Drawing, filled, part, refuse_bad_page, script_data, summary, told_by, tree, write_page
-from dlkt.program import Refused, position, program_of, report_of, seconds
-from dlkt.terms import readable, version_of
-from dlkt.typeset import formula, sequent
-from dlkt.commands.verify import GUARD_WHY, as_object, at, source_of
-from dlkt.verdict import VERIFIED, Fault, Kind, Options, counted, verdict_on
-from dlkt.words import runs_in
+from dlkt import reader, strategies
+from dlkt.commands.print import printed_model
+from dlkt.commands.tree import UNTOLD, Drawing, Sequent, Table, Told, filled, part, refuse_bad_page, script_data, summary, told_by, tree, trees_of, write_page
+from dlkt.commands.verify import GUARD_WHY, WHY, source_of
+from dlkt.layout import WIDTH
+from dlkt.leaves import listed
+from dlkt.program import Refused, answer, count, has_report, position, program_of, report_of, seconds
+from dlkt.strategies import Branch, Choice, Part
+from dlkt.terms import in_version_1
+from dlkt.typeset import formula
+from dlkt.verdict import Fault, Guard, Kind, Leaf, Options, Proof, Spot, Verdict, counted, verdict_on
+from dlkt.words import Run, runs_in
 
 # Of how many runs of a word the goals are shown.
 GOALS_SHOWN = 4
@@ -37,68 +47,130 @@ class Visit(NamedTuple):
 
     byte: int
     word: str
-    count: int
-    goals: list
+    runs: int
+    goals: Sequence[Sequent]
 
 
-class Found(NamedTuple):
-    """What there is to say of a proof."""
+# A strategy that fails
 
-    title: str
-    told: dict
-    model: bytes
-    strategy: bytes
-    term: bytes
-    program: Path
-    runs: list
-    visits: list
+def shortened(source: str, byte: int) -> str | None:
+    """The strategy up to the part that begins at a byte, which does nothing there; each byte before it keeps its place. None where that can't be
+    had."""
+    try:
+        way = strategies.way_to(strategies.read(source), byte)
+    except strategies.Wrong:
+        return None
+    if way is None:
+        return None
+    text = list(source)
+
+    def put(begin: int, end: int, instead: str) -> None:
+        """Puts this and blanks in the stead of a part."""
+        text[begin:end] = instead.ljust(end - begin)
+
+    for here, below in zip(way, way[1:]):
+        later: Sequence[Part] = here.parts[here.parts.index(below) + 1 :] if isinstance(here, (Branch, Choice, strategies.Sequence)) else ()
+        if isinstance(here, Branch):
+            for one in later:
+                put(one.begin, one.end, "nil")
+        elif later:
+            put(below.end, later[-1].end, "")
+    put(way[-1].begin, way[-1].end, "nil")
+    return "".join(text)
 
 
 # What there is to say
 
-def goal_before(program, model, lines, run):
-    """The goal on which a run of a word worked: of the line before its first one, as the program tells it. The lines are those of version 1."""
-    with tempfile.TemporaryDirectory() as folder:
-        term = Path(folder) / "term"
-        term.write_text("\n".join([*lines[: run.first - 1], "done", ""]), encoding="latin-1")
-        return report_of(program, model, term)["goals"][run.goal - 1]
+class Found:
+    """What there is to say of a proof, as far as it goes: its strategy, where it is known, its term, the words that made its lines, and its tree.
+    Refused where there is none."""
+
+    def __init__(self, verdict: Verdict, program: str, title: str) -> None:
+        self.verdict, self.program, self.title = verdict, program, title
+        self.strategy = verdict.proof.data if verdict.kind is Kind.STRATEGY else b""
+        self.term, self.goals = verdict.term, list(verdict.found.goals)
+        self.runs: list[Run] = []
+        with tempfile.TemporaryDirectory() as folder:
+            self.place = Path(folder)
+            self.model = self.place / "model"
+            self.model.write_bytes(verdict.model.data)
+            self.run = self.strategy.decode("latin-1")
+            if isinstance(verdict.found, Fault):
+                self.prove_again(verdict.found)
+            self.drawing = Drawing(self.term)
+            self.table = Table(self.drawing)
+            self.trees = trees_of(self.drawing.term)
+            if self.strategy:
+                self.runs = runs_in(program, self.model, self.run, self.text) or []
+            self.visits = self.visits_of()
+
+    def prove_again(self, fault: Fault) -> None:
+        """Makes the term of the strategy up to where it fails."""
+        where = f"{fault.place.file}:{fault.place.line}:{fault.place.column}: " if fault.place else ""
+        run = shortened(self.run, fault.place.byte) if fault.place and fault.text.startswith(("refused: fails", "refused: budget")) else None
+        if run is None:
+            raise Refused(f"{where}{fault.text}")
+        strategy, term = self.place / "strategy", self.place / "term"
+        strategy.write_text(run, encoding="latin-1")
+        if not has_report(answer(self.program, "prove", self.model, strategy, term)):
+            raise Refused(f"{where}{fault.text}")
+        self.run, self.term = run, term.read_bytes()
+
+    @cached_property
+    def text(self) -> str:
+        """The term as one of version 1."""
+        return in_version_1(self.drawing.term)
+
+    @property
+    def told(self) -> Told:
+        """The words that made the lines."""
+        return told_by(self.runs, self.strategy) if self.runs else UNTOLD
+
+    def sequent(self, text: str) -> Sequent:
+        """A sequent by its text."""
+        left, right = reader.sequent(text, self.trees)
+        return tuple(left), tuple(right)
+
+    def visits_of(self) -> list[Visit]:
+        """The words of the strategy that made lines, in the order of its text, with the goals on which they ran: as the tree has them, and where
+        it doesn't know them whole as the program tells them."""
+        by_byte, by_line = dict[int, list[Run]](), dict[int, Run]()
+        for run in self.runs:
+            by_byte.setdefault(run.byte, []).append(run)
+            by_line.update(dict.fromkeys(range(run.first, run.last + 1), run))
+        wanted = [run for those in by_byte.values() for run in those[:GOALS_SHOWN]]
+        goals = dict[Run, Sequent]()
+        for node in self.drawing.nodes:
+            here = by_line.get(node.line)
+            if here is not None and here not in goals and node.kind != "again" and node.sequent and None not in (*node.sequent[0], *node.sequent[1]):
+                goals[here] = node.sequent
+        goals |= self.goals_before([run for run in wanted if run not in goals])
+        return [Visit(byte, those[0].word, len(those), [goals[run] for run in those[:GOALS_SHOWN]]) for byte, those in sorted(by_byte.items())]
+
+    def goals_before(self, runs: Sequence[Run]) -> dict[Run, Sequent]:
+        """The goals on which runs of words worked: each of the line before the first one, as the program tells it."""
+        lines = self.text.split("\n")
+
+        def goal(run: Run) -> str:
+            """The text of a goal."""
+            term = self.place / f"term{run.first}"
+            term.write_text("\n".join([*lines[: run.first - 1], "done", ""]), encoding="latin-1")
+            return str(report_of(self.program, self.model, term)["goals"][run.goal - 1])
+
+        with ThreadPoolExecutor(os.cpu_count() or 1) as pool:
+            try:
+                return {run: self.sequent(said) for run, said in zip(runs, pool.map(goal, runs))}
+            except BaseException:
+                pool.shutdown(wait=False, cancel_futures=True)
+                raise
+
+    def shown(self, sequent: Sequent) -> str:
+        """The place on the page where the script shows a sequent."""
+        self.table.lay_out(sequent)
+        return f'<div class="sequent" data-sequent="{self.table.sequent(sequent)}"></div>'
 
 
-def visits_of(program, model, term, runs):
-    """The words of the strategy that made lines, in the order of its text, with the goals on which they ran."""
-    lines, by_byte = term.split("\n"), {}
-    for run in runs:
-        by_byte.setdefault(run.byte, []).append(run)
-    wanted = [run for those in by_byte.values() for run in those[:GOALS_SHOWN]]
-    with ThreadPoolExecutor(os.cpu_count() or 1) as pool:
-        try:
-            goals = dict(zip(wanted, pool.map(lambda run: goal_before(program, model, lines, run), wanted)))
-        except BaseException:
-            pool.shutdown(wait=False, cancel_futures=True)
-            raise
-    return [
-        Visit(byte, those[0].word, len(those), [goals[run] for run in those[:GOALS_SHOWN]]) for byte, those in sorted(by_byte.items())
-    ]
-
-
-def found_out(options):
-    """What there is to say. Refused where the strategy doesn't end."""
-    program, model, strategy = program_of(options.dlk), source_of(options.model), source_of(options.strategy)
-    verdict = verdict_on(model, strategy, Options(program, options.seconds, waits_for_all=True, kind=Kind.STRATEGY))
-    if isinstance(verdict.found, Fault):
-        place = verdict.found.place
-        raise Refused(f"{at(place)}: {verdict.found.text}" if place else verdict.found.text)
-    term = readable(verdict.term)
-    with tempfile.TemporaryDirectory() as folder:
-        path = Path(folder) / "model"
-        path.write_bytes(model.data)
-        runs = runs_in(program, path, strategy.data.decode("latin-1"), term) or []
-        visits = visits_of(program, path, term, runs)
-    told = {**as_object(verdict), "goals": list(verdict.found.goals)}
-    return Found(options.title or title_of(options.model), told, model.data, strategy.data, verdict.term, Path(program), runs, visits)
-
-
-def title_of(model):
+def title_of(model: str) -> str:
     """What a page is called: as the model's folder, where the file itself is only called a model."""
     path = Path(model)
     return path.resolve().parent.name if path.stem == "model" else path.stem
@@ -106,181 +178,254 @@ def title_of(model):
 
 # The parts of the page
 
-def source(data):
+def source(data: bytes) -> str:
     """A text as it was written, with its comments set apart."""
     return formula(data.decode("utf-8", "replace"))
 
 
-def rest_of(name, text):
+def model(data: bytes) -> str:
+    """The model, laid out."""
+    return source(printed_model(data.decode("latin-1"), WIDTH).encode("latin-1"))
+
+
+def rest_of(name: str, said: str) -> str:
     """A line of what the verdict rests on."""
-    return f"<dt>{name}</dt><dd>{text}</dd>"
+    return f"<dt>{name}</dt><dd>{said}</dd>"
 
 
-def rests(found):
-    """What the verdict rests on, or what is known of the parts of one that isn't."""
-    told, guard = found.told, found.told["guard"]
-    lines = counted(told["lines"], "line")
-    proof = f"<b>{told['outcome']}</b>. The program made a term of {lines}. That it prints <code>closed</code> only where the model is derived"
-    proof += " in the written calculus from exactly the leaves below is proved."
-    if told["goals"]:
-        goals = "".join(f'<div class="left"><b>goal {number}</b>{sequent(goal)}</div>' for number, goal in enumerate(told["goals"], 1))
-        proof = f'<b class="bad">open</b>. The program made a term of {lines}, and leaves {counted(len(told["goals"]), "goal")}: {goals}'
-    said = "<b>guarded</b>. No line rests on a place where the written calculus isn't sound over the reals. That this prints so only where the"
-    said += " definition of guarded holds is proved; that it is enough is argued on paper, in docs/SOUNDNESS.md."
-    if not guard["guarded"]:
-        why = GUARD_WHY.get(guard["why"].split(" ")[0], "")
-        made = f" Made by <code>{html.escape(guard['word'])}</code>, {html.escape(where(guard['place']))}." if guard["place"] else ""
-        said = f'<b class="bad">{html.escape(guard["text"])}</b>' + (f": {html.escape(why)}." if why else ".") + made
-    return "\n".join(
-        [
-            rest_of("Proof", proof),
-            rest_of("Guard", said),
-            rest_of("Leaves", leaves_in_short(told)),
-            rest_of("Program", f"dlk, {size_of(found.program.read_bytes())}"),
-            *(rest_of("Hint", f"{html.escape(where(hint['place']))}: {html.escape(hint['text'])}") for hint in told["hints"]),
-        ]
+def where(place: Spot) -> str:
+    """A place, told to people who don't have the file's path."""
+    return f"{Path(place.file).name}, line {place.line}, column {place.column}"
+
+
+def goals_left(found: Found, goals: Sequence[str], what: str) -> str:
+    """Goals with their numbers."""
+    return "".join(
+        f'<div class="left"><b>{what} {number}</b>{found.shown(found.sequent(goal))}</div>' for number, goal in enumerate(goals, 1)
     )
 
 
-def where(place):
-    """A place, told to people who don't have the file's path."""
-    return f"{Path(place['file']).name}, line {place['line']}, column {place['column']}"
+def said_of_proof(found: Found, proof: Proof) -> str:
+    """How a proof ends that the program takes."""
+    lines = counted(proof.lines, "line")
+    made = f"The program made a term of {lines}" if found.strategy else f"The term has {lines}, and the program replays it"
+    if proof.goals:
+        return f'<b class="bad">open</b>. {made}. Left are {counted(len(proof.goals), "goal")}: {goals_left(found, proof.goals, "goal")}'
+    said = f"<b>{proof.outcome}</b>. {made}. That it prints <code>closed</code> only where the model is derived"
+    return said + " in the written calculus from exactly the leaves below is proved."
 
 
-def leaves_in_short(told):
-    """What is said of the leaves together."""
-    if not told["leaves"]:
-        return "<b>none</b>. No fact of arithmetic is assumed."
-    valid = sum(leaf["answer"] == "valid" for leaf in told["leaves"])
-    all_of = counted(len(told["leaves"]), "fact") + " of arithmetic"
+def said_of_lemmas(proof: Proof) -> str:
+    """Which lines of a linked proof are those of lemmas."""
+    rows = "".join(
+        f"<div>lines {lemma.first:,} to {lemma.last:,}: {counted(lemma.goals, 'goal')} proved with "
+        f"<code>{formula(lemma.conclusion)}</code></div>" for lemma in proof.lemmas
+    )
+    return f"<b>linked</b>. This proof has lemmas that were proved by themselves and put in: {rows}"
+
+
+def said_of_fault(found: Found, fault: Fault) -> str:
+    """Where and why a strategy fails."""
+    why = WHY.get(fault.why, fault.why)
+    if fault.parts is not None and fault.count_of_goals is not None:
+        why = f"the branch has {counted(fault.parts, 'part')}, and there are {counted(fault.count_of_goals, 'goal')}"
+    place = f"{html.escape(where(fault.place))}: " if fault.place else ""
+    lines = f'<pre class="source">{html.escape(fault.place.source)}\n<b class="bad">{html.escape(fault.place.caret)}</b></pre>' if fault.place else ""
+    met = goals_left(found, fault.goals[:GOALS_SHOWN], "it meets goal" if fault.parts is not None else "it fails on goal")
+    said = f'<b class="bad">the strategy fails</b>. {place}{html.escape(fault.why)}: {html.escape(why)}. {lines}{met}'
+    return said + f"<p>The proof below is that of the strategy up to there: {counted(len(found.drawing.lines) - 1, 'line')}.</p>"
+
+
+def said_of_guard(guard: Guard) -> str:
+    """What the guard says."""
+    if guard.is_guarded:
+        said = "<b>guarded</b>. No line rests on a place where the written calculus isn't sound over the reals. That this prints so only where the"
+        return said + " definition of guarded holds is proved; that it is enough is argued on paper, in docs/SOUNDNESS.md."
+    why = GUARD_WHY.get((guard.why or "").split(" ")[0], "")
+    made = f" Made by <code>{html.escape(guard.made_by.word)}</code>, {html.escape(where(guard.made_by.place))}." if guard.made_by else ""
+    return f'<b class="bad">{html.escape(guard.text)}</b>' + (f": {html.escape(why)}." if why else ".") + made
+
+
+def rests(found: Found) -> str:
+    """What the verdict rests on, or what is known of the parts of one that isn't."""
+    verdict, rows = found.verdict, list[str]()
+    if isinstance(verdict.found, Fault):
+        rows.append(rest_of("Proof", said_of_fault(found, verdict.found)))
+    else:
+        rows.append(rest_of("Proof", said_of_proof(found, verdict.found)))
+        if verdict.found.lemmas:
+            rows.append(rest_of("Lemmas", said_of_lemmas(verdict.found)))
+    if verdict.guard:
+        rows.append(rest_of("Guard", said_of_guard(verdict.guard)))
+        rows.append(rest_of("Leaves", leaves_in_short(verdict)))
+    rows.append(rest_of("Program", f"dlk, {size_of(Path(found.program).read_bytes())}"))
+    return "\n".join([*rows, *(rest_of("Hint", f"{html.escape(where(hint.place))}: {html.escape(hint.text)}") for hint in verdict.hints)])
+
+
+def by_solvers(verdict: Verdict) -> str:
+    """How many leaves each solver calls valid."""
     by = [
-        f"{html.escape(f'{solver} {version}')} calls {sum(leaf['by'].get(solver) == 'valid' for leaf in told['leaves'])} of them valid"
-        for solver, version in told["solvers"].items()
+        f"{html.escape(f'{solver} {version}'.strip())} calls {sum(leaf.said.by.get(solver) == 'valid' for leaf in verdict.leaves)} of them valid"
+        for solver, version in verdict.solvers.items() if any(solver in leaf.said.by for leaf in verdict.leaves)
     ]
-    mood = "" if valid == len(told["leaves"]) else ' class="bad"'
-    asked = "; ".join(by) or "no solver was there to ask"
-    return f"<b{mood}>{valid} of {len(told['leaves'])} valid</b>. The proof assumes {all_of}: {asked}. That a solver is right isn't proved."
+    return "; ".join(by) or "no solver was there to ask"
 
 
-def answers_to(leaf, solvers):
-    """What each solver says of a leaf."""
-    rows = []
-    for solver, version in solvers.items():
-        word = leaf["by"].get(solver, leaf["answer"])
-        mood = {"valid": "good", "false": "bad"}.get(word, "bad" if leaf["answer"] != "valid" else "quiet")
-        rows.append(f'<div><span>{html.escape(f"{solver} {version}")}</span><b class="{mood}">{html.escape(word)}</b></div>')
-        values = ", ".join(f"{name}={value}" for name, value in leaf["values_by"].get(solver, {}).items())
+def valid_of(verdict: Verdict) -> str:
+    """How many of the leaves are valid."""
+    valid = sum(leaf.said.word == "valid" for leaf in verdict.leaves)
+    mood = "" if valid == len(verdict.leaves) else ' class="bad"'
+    return f"<b{mood}>{valid} of {len(verdict.leaves)} valid</b>"
+
+
+def leaves_in_short(verdict: Verdict) -> str:
+    """What is said of the leaves together."""
+    if not verdict.leaves:
+        return "<b>none</b>. No fact of arithmetic is assumed."
+    all_of = counted(len(verdict.leaves), "fact") + " of arithmetic"
+    return f"{valid_of(verdict)}. The proof assumes {all_of}: {by_solvers(verdict)}. That a solver is right isn't proved."
+
+
+def answers_to(leaf: Leaf, solvers: Sequence[tuple[str, str]]) -> str:
+    """What each solver says of a leaf that answered."""
+    rows, said = list[str](), leaf.said
+    for solver, version in solvers:
+        word = said.by.get(solver) or (said.word if not said.by else "")
+        if word:
+            mood = {"valid": "good", "false": "bad"}.get(word, "bad" if said.word != "valid" else "quiet")
+            rows.append(f'<div><span>{html.escape(f"{solver} {version}".strip())}</span><b class="{mood}">{html.escape(word)}</b></div>')
+        values = listed(said.values_by.get(solver, {}))
         if values:
             rows.append(f'<div class="values">at {html.escape(values)}</div>')
-    if leaf["computed"]:
-        rows.append(f'<div class="quiet">with {html.escape(", ".join(f"{new} for {old}" for old, new in leaf["computed"]))}</div>')
-    return "".join(rows) or '<div class="bad">not asked</div>'
+    if said.computed:
+        rows.append(f'<div class="quiet">with {html.escape(", ".join(f"{new} for {old}" for old, new in said.computed))}</div>')
+    return "".join(rows) or f'<div class="bad">{html.escape(said.word)}</div>'
 
 
-def leaves(told):
-    """The leaves, each with the answers to it."""
+def leaves(found: Found) -> str:
+    """The leaves, each with the answers to it: folded behind their number where all are valid."""
+    verdict = found.verdict
+    if verdict.guard is None:
+        return '<p class="note">They weren\'t asked for: the strategy fails.</p>'
+    if not verdict.leaves:
+        return '<p class="note">There are none.</p>'
     rows = [
-        f'<div class="leaf"><b>{leaf["leaf"]}</b><div>{sequent(leaf["text"])}</div>'
-        f'<div class="answers">{answers_to(leaf, told["solvers"])}</div></div>'
-        for leaf in told["leaves"]
+        f'<div class="leaf"><b>{leaf.number}</b>{found.shown(found.sequent(leaf.text))}'
+        f'<div class="answers">{answers_to(leaf, list(verdict.solvers.items()))}</div></div>'
+        for leaf in sorted(verdict.leaves, key=lambda leaf: (leaf.said.word == "valid", leaf.number))
     ]
-    return "".join(rows) or '<p class="note">There are none.</p>'
+    is_open = " open" if any(leaf.said.word != "valid" for leaf in verdict.leaves) else ""
+    first = f"{counted(len(verdict.leaves), 'leaf')}, {valid_of(verdict)}: {by_solvers(verdict)}"
+    return f"<details{is_open}><summary>{first}</summary>{''.join(rows)}</details>"
 
 
-def goals_of(number, visit, place):
-    """The goals of a word, as they stand beside the strategy."""
-    ran = "it ran on this goal" if visit.count == 1 else f"it ran on {visit.count} goals"
-    rest = f", of which these are the first {len(visit.goals)}" if len(visit.goals) < visit.count else ""
-    cards = "".join(map(sequent, visit.goals))
-    word = html.escape(visit.word)
-    return f'<div class="goals" id="goals{number}"><h3>{word}</h3><p>line {place.line}, column {place.column}: {ran}{rest}</p>{cards}</div>'
-
-
-def strategy(data, visits):
+def strategy(found: Found) -> str:
     """The strategy, in which each word that made lines is a button, and beside it the goals of that word."""
-    out, goals, end = [], [], 0
-    for number, visit in enumerate(visits):
+    data = found.strategy.rstrip()
+    if not data:
+        return '<p class="note">The proof was given as a term, without the strategy that made it.</p>'
+    out, end = list[str](), 0
+    fault = found.verdict.found if isinstance(found.verdict.found, Fault) else None
+    for number, visit in enumerate(found.visits):
         name = visit.word.partition("(")[0].strip().encode("latin-1")
-        behind = visit.byte + len(name)
-        out += [source(data[end : visit.byte]), f'<button class="atom" data-goals="goals{number}">{html.escape(name.decode("latin-1"))}</button>']
-        goals.append(goals_of(number, visit, position(data, visit.byte)))
-        end = behind
-    beside = "".join(goals) or '<p class="note">Which word made which line of the term isn\'t known.</p>'
-    return f'<div class="beside"><pre class="source">{"".join(out)}{source(data[end:])}</pre><div>{beside}</div></div>'
+        out += [source(data[end : visit.byte]), f'<button class="atom" data-word="{number}">{html.escape(name.decode("latin-1"))}</button>']
+        end = visit.byte + len(name)
+    rest = source(data[end:])
+    if fault and fault.place and fault.place.byte >= end:
+        at = fault.place.byte
+        word = strategies.NAME.match(data.decode("latin-1"), at)
+        behind = word.end() if word else at + 1
+        rest = f'{source(data[end:at])}<mark id="fails" title="it fails here">{source(data[at:behind])}</mark>'
+        rest += f'<span class="after">{source(data[behind:])}</span>'
+    beside = '<div id="goals"></div>' if found.visits else '<p class="note">Which word made which line of the term isn\'t known.</p>'
+    return f'<div class="beside"><pre class="source">{"".join(out)}{rest}</pre><div>{beside}</div></div>'
 
 
-def size_of(data):
+def visits(found: Found) -> list[list[object]]:
+    """The words for the page's script, in the order of the buttons: the text, the place, on how many goals it ran, and the numbers of the first."""
+    told = []
+    for visit in found.visits:
+        place = position(found.strategy, visit.byte)
+        for goal in visit.goals:
+            found.table.lay_out(goal)
+        told.append([visit.word, place.line, place.column, visit.runs, [found.table.sequent(goal) for goal in visit.goals]])
+    return told
+
+
+def size_of(data: bytes) -> str:
     """The size and the hash of a file."""
     return f'{len(data):,} bytes, sha256 <span class="hash">{hashlib.sha256(data).hexdigest()}</span>'
 
 
-def files(found):
+def files(found: Found) -> str:
     """The files, with what is needed to check them again."""
+    all_of = {"model": found.verdict.model.data, "strategy": found.strategy, "term": found.term}
     rows = "".join(
         f'<tr><td>{name}</td><td class="number">{len(data):,}</td><td><code class="hash">{hashlib.sha256(data).hexdigest()}</code></td>'
-        f'<td><button data-file="{name}">save</button></td></tr>'
-        for name, data in (("model", found.model), ("strategy", found.strategy), ("term", found.term))
+        f'<td><button data-file="{name}">save</button></td></tr>' for name, data in all_of.items() if data
     )
-    texts = {"model": found.model.decode("latin-1"), "strategy": found.strategy.decode("latin-1")}
-    if version_of(found.term) == 2:  # else the page's script has its lines
-        texts["term"] = found.term.decode("latin-1")
+    texts = {name: data.decode("latin-1") for name, data in all_of.items() if data}
+    if texts["term"] == found.table.text():  # the script has it
+        del texts["term"]
+    note = "This page was made by a script of which nothing is proved, and checks nothing itself."
+    if found.verdict.guard:
+        note += " Whoever doubts it saves the model and the term, and asks <code>dlk guard model term</code>: the answer depends on these two files alone."
     return (
         f"<table><tr><th>File</th><th>Bytes</th><th>sha256</th><th></th></tr>{rows}</table>"
-        '<p class="note">This page was made by a script of which nothing is proved, and checks nothing itself. Whoever doubts it saves the model'
-        " and the term, and asks <code>dlk guard model term</code>: the answer depends on these two files alone.</p>"
-        f'<script type="application/json" id="texts">{script_data(texts)}</script>'
+        f'<p class="note">{note}</p><script type="application/json" id="texts">{script_data(texts)}</script>'
     )
 
 
-def verdict(told):
+def verdict_line(verdict: Verdict) -> tuple[str, str, str]:
     """The mood, the word and the reasons of the verdict."""
-    if told["status"] != VERIFIED:
-        return "bad", "not verified", "; ".join(told["reasons"])
-    said = f"{counted(len(told['leaves']), 'leaf')} valid" if told["leaves"] else "no leaves"
-    return "good", "verified", f"closed, guarded, {said}"
+    linked = " The proof is a linked one." if isinstance(verdict.found, Proof) and verdict.found.lemmas else ""
+    if not verdict.is_verified:
+        return "bad", "not verified", "; ".join(verdict.reasons) + (f".{linked}" if linked else "")
+    said = f"{counted(len(verdict.leaves), 'leaf')} valid" if verdict.leaves else "no leaves"
+    return "good", "verified", f"closed, guarded, {said}" + (f".{linked}" if linked else "")
 
 
-def page(found):
-    """The text of the page."""
-    mood, word, why = verdict(found.told)
-    drawing = Drawing(readable(found.term))
-    known = told_by(found.runs, found.strategy) if found.runs else UNTOLD
+def page(found: Found) -> str:
+    """The text of the page. The tree comes last, since it has the formulas of all other parts."""
+    mood, word, why = verdict_line(found.verdict)
     parts = {
-        "name": html.escape(found.title),
-        "mood": mood,
-        "word": word,
-        "why": html.escape(why),
-        "treestyle": part("tree.css"),
-        "style": part("page.css"),
-        "script": part("page.js"),
-        "model": source(found.model.rstrip()),
-        "rests": rests(found),
-        "leaves": leaves(found.told),
-        "strategy": strategy(found.strategy.rstrip(), found.visits),
-        "summary": summary(drawing),
-        "tree": tree(drawing, 12, known),
-        "files": files(found),
+        "name": html.escape(found.title), "mood": mood, "word": word, "why": html.escape(why),
+        "treestyle": part("tree.css"), "style": part("page.css"), "script": part("page.js"),
+        "model": model(found.verdict.model.data), "rests": rests(found), "leaves": leaves(found), "strategy": strategy(found),
+        "summary": summary(found.drawing), "files": files(found),
     }
-    return filled(part("page.html"), **parts)
+    given: dict[str, object] = {"visits": visits(found)}
+    given |= found.table.given(12, found.told)
+    return filled(part("page.html"), **parts, typeset=part("typeset.js"), tree=tree(given))
+
+
+def written(verdict: Verdict, path: str, program: str | None = None, title: str | None = None) -> None:
+    """Writes the page of a verdict to a file, or to standard output, which is `-`. Refused where there is no proof to write of, or the file is one
+    that isn't written over."""
+    known = program or program_of()
+    refuse_bad_page(path, (verdict.model.name, verdict.proof.name, known))
+    write_page(path, page(Found(verdict, known, title or title_of(verdict.model.name))))
 
 
 HELP = "writes a page of a proof, to hand on"
 EXAMPLE = "dlkt page examples/tutorial/car/model examples/tutorial/car/strategy -o /tmp/car.html"
 
 
-def add_words(parser):
+def add_words(parser: argparse.ArgumentParser) -> None:
     """The words of the command."""
     parser.add_argument("model", metavar="MODEL")
-    parser.add_argument("strategy", metavar="STRATEGY")
+    parser.add_argument("proof", metavar="PROOF", help="a strategy, or a term")
     parser.add_argument("-o", "--output", metavar="PAGE", default="-", help="where to write it (standard output)")
     parser.add_argument("--title", help="what the page is called")
     parser.add_argument("--seconds", type=seconds, default=20, metavar="N", help="for each leaf and solver (20)")
+    parser.add_argument("-j", dest="jobs", type=count, default=os.cpu_count() or 1, metavar="N", help="so many leaves at a time")
     parser.add_argument("--dlk", metavar="PROGRAM", help="the program (that of this checkout)")
 
 
-def run(options):
+def run(options: argparse.Namespace) -> int:
     """Writes the page."""
-    options.term = None
-    refuse_bad_page(options.output, (options.model, options.strategy, program_of(options.dlk)))
-    write_page(options.output, page(found_out(options)))
+    program = program_of(options.dlk)
+    refuse_bad_page(options.output, (options.model, options.proof, program))
+    verdict = verdict_on(source_of(options.model), source_of(options.proof), Options(program, options.seconds, options.jobs))
+    written(verdict, options.output, program, options.title)
     return 0

@@ -1,325 +1,135 @@
 """A prompt over `dlk session`: a proof from the terminal, a line at a time, with undo.
 
-    dlkt prompt MODEL [SCRIPT] [--dlk PROGRAM]
+    dlkt prompt MODEL [SCRIPT] [--seconds N] [--dlk PROGRAM]
 
 A line is a strategy, which is run on goal 1, or `apply G STRATEGY` for goal G. Behind each the goals that it left are shown, a formula a line with the
 place by which a strategy names it. SCRIPT is a script of `dlk session`, whose lines are run first. Other lines:
 
     undo          takes the last strategy back
     goals         shows all goals
+    suggest [G]   tries what might go on at goal G (1), and lists what works, with what is new in the goals that it leaves
+    leaves [G]    asks the solvers about goal G where it is arithmetic, or about all such goals and the leaves so far
     paths P [G]   shows each part of the formula at place P (1, -1, ..) of goal G (1) with its path
     history       shows what was done
     save FILE     writes the strategy so far to FILE, the script to FILE.script and the term to FILE.term
     help, quit
 
+A line goes on where a bracket, quotes or a comment is open at its end, or where it ends in `;`, `,` or `|`; an empty line ends it in any case.
+
 After each line the program runs the whole script so far, anew: nothing is shown but what it says. What fails leaves no trace in the script. It works on
-a copy of MODEL, and writes over no file but those that it wrote itself. It ends with `quit`, control-D or control-C; what isn't saved then is
-printed. The exit status is 0 where no goals are left, 1 where some are, 2 where an input is refused, and 130 behind control-C.
+a copy of MODEL, and writes over no file but those that it wrote itself. It ends with `quit` or control-D; what isn't saved then is printed. Control-C
+clears the line at a terminal, and stops what is at work; where lines are read from elsewhere it ends the prompt. The exit status is 0 where no goals
+are left, 1 where some are, 2 where an input is refused, and 130 behind control-C.
 
 Where standard input is no terminal, lines are read from it, and shown as a terminal would show them. At a terminal it needs prompt_toolkit (Debian:
-python3-prompt-toolkit), and completes with Tab.
+python3-prompt-toolkit), and completes with Tab: words of strategies, and names of the model in quotes.
 """
 
+import argparse
+import importlib.resources
 import json
 import re
 import sys
 import tempfile
 from pathlib import Path
-from typing import NamedTuple
+from typing import Callable, Iterable, Sequence
 
-from dlkt import reader as texts
-from dlkt.failing import state_by
-from dlkt.program import (
-    INPUT_REFUSED,
-    INTERRUPTED,
-    Refused,
-    answer,
-    are_same_file,
-    complaint_of,
-    goals_in,
-    has_report,
-    leaves_in,
-    numbered,
-    position,
-    program_of,
-    put_at,
-    read_bytes,
-    refusal_in,
-    shown,
-)
-from dlkt.terms import lines_of
-from dlkt.trees import Trees, text as text_of
+from dlkt.layout import laid_out_goal
+from dlkt.leaves import exported_alone, listed
+from dlkt.program import INTERRUPTED, Refused, program_of, seconds
+from dlkt.session import APPLY, Failure, Proof, as_typed, changes
+from dlkt.solvers import Solvers
+from dlkt.trees import text
 
-NAMES = Path(__file__).resolve().parent.parent / "names.json"
-COMMANDS = ("apply", "undo", "goals", "paths", "history", "save", "help", "quit")
-APPLY = re.compile(r"apply ([1-9]\d{0,8}) (.*)", re.DOTALL)
-FAILURE = re.compile(r"(fails|budget) at (\d+)(?:: (\w+))?")
-MOST_SHOWN = 4  # goals on which a word fails
+NAMES = importlib.resources.files("dlkt") / "names.json"
+COMMANDS = ("apply", "undo", "goals", "suggest", "leaves", "paths", "history", "save", "help", "quit")
+GOES_ON = (";", ",", "|", "<")
+PARTS = re.compile(r'"[^"]*"?|/\*.*?(?:\*/|$)|[()]', re.DOTALL)
+CONTINUED = "... "
+Ask = Callable[[Proof, str], str]
 
 
-class Line(NamedTuple):
-    """A strategy that was run on a goal, a character a byte, and how many goals there were before."""
+# Lines that go on
 
-    goal: int
-    strategy: str
-    goals_before: int
-
-    def script(self):
-        """The line of the script."""
-        return f"apply {self.goal} {self.strategy}"
-
-    def part(self):
-        """The same as a part of a strategy, which passes over the other goals."""
-        here = f"({self.strategy})"
-        if self.goals_before == 1:
-            return here
-        return "<(" + ", ".join(here if number == self.goal else "nil" for number in range(1, self.goals_before + 1)) + ")"
+def goes_on(line: str) -> bool:
+    """Whether a line isn't whole: quotes, a comment or a bracket is open at its end, or it ends in what must have something behind it."""
+    depth, last = 0, ""
+    for part in PARTS.findall(line):
+        depth += {"(": 1, ")": -1}.get(part, 0)
+        last = part
+    is_open = last == '"' or last.startswith('"') and not last.endswith('"') or last.startswith("/*") and not last.endswith("*/")
+    bare = re.sub(r"/\*.*?\*/", " ", line, flags=re.DOTALL).rstrip()
+    return is_open and line.rstrip().endswith(last.rstrip()) or depth > 0 or bare.endswith(GOES_ON)
 
 
-class Failure(Exception):
-    """Why a line isn't done, in lines to show."""
+def joined(lines: Sequence[str]) -> str:
+    """Lines as one. A comment up to the end of a line would go on in it, and is refused."""
+    if len(lines) > 1 and any("//" in line for line in lines):
+        raise Failure(["a comment that begins with // can't stand in several lines: write /* .. */"])
+    return " ".join(line.strip() for line in lines)
 
 
-def as_typed(lines):
-    """Lines of a character a byte as they were typed."""
-    return [line.encode("latin-1").decode("utf-8", "replace") for line in lines]
-
-
-class Proof:
-    """A proof that grows a line at a time, with a folder for its files. It knows of the goals what the program said last."""
-
-    def __init__(self, folder, program, model, script=None):
-        self.program, self.place = program, Path(folder)
-        self.inputs = [name for name in (model, script, program) if name]
-        self.model = self.place / "model"
-        self.model.write_bytes(read_bytes(model))
-        self.lines, self.report, self.written, self.saved = [], "", set(), []
-        if script:
-            self.take_script(script)
-        self.see()
-
-    # The program
-
-    def session(self, lines):
-        """What the program answers to a script of these lines, and the term that it saves, or none."""
-        script, term = self.place / "script", self.place / "term"
-        script.write_text("".join(f"{line}\n" for line in lines), encoding="latin-1")
-        term.unlink(missing_ok=True)
-        said = answer(self.program, "session", self.model, script, term)
-        return said, term.read_bytes() if term.exists() else None
-
-    def so_far(self):
-        """The lines of the script so far."""
-        return [line.script() for line in self.lines]
-
-    def replies(self, said, count):
-        """The replies to so many lines, and what is printed behind them. Refused where the program doesn't answer."""
-        if not has_report(said):
-            raise Refused(complaint_of(said))
-        lines = said.text.split("\n")
-        return lines[:count], "\n".join(lines[count:])
-
-    def see(self):
-        """Asks the program for the state."""
-        said, _ = self.session([*self.so_far(), "show"])
-        if said.status == INPUT_REFUSED:
-            self.refuse_model(said)
-        replies, self.report = self.replies(said, len(self.lines))
-        for line, reply in zip(self.lines, replies):
-            if not reply.startswith("ok goals "):
-                raise Refused(f"{line.script()}: {reply}")
-
-    def refuse_model(self, said):
-        """Says where the program refuses the model, or what else it refuses."""
-        refusal = refusal_in(said.text)
-        if refusal and refusal.what == "model":
-            place = position(self.model.read_bytes(), refusal.byte)
-            raise Refused(f"{self.inputs[0]}:{place.line}:{place.column}: {complaint_of(said)}")
-        raise Refused(complaint_of(said).replace(str(self.place), "").lstrip("/"))
-
-    def take_script(self, script):
-        """Takes the lines of a script, without those that failed or were undone."""
-        given = [line.rstrip("\r") for line in lines_of(read_bytes(script))]
-        said, _ = self.session(given)
-        if said.status == INPUT_REFUSED and said.text.startswith("refused: script line"):
-            raise Refused(f"{script}: {complaint_of(said)}")
-        if said.status == INPUT_REFUSED:
-            self.refuse_model(said)
-        goals = 1
-        wanted = [line for line in given if line not in ("show", "save")]
-        said, _ = self.session(wanted)
-        for line, reply in zip(wanted, self.replies(said, len(wanted))[0]):
-            found, count = APPLY.fullmatch(line), re.fullmatch(r"ok goals (\d+)", reply)
-            if found and count:
-                self.lines.append(Line(int(found[1]), found[2], goals))
-            elif line == "undo" and count:
-                self.lines.pop()
-            if count:
-                goals = int(count[1])
-
-    # What there is to see
-
-    def goals(self):
-        """The goals that are left."""
-        return goals_in(self.report)
-
-    def is_closed(self):
-        """Whether none are left."""
-        return self.report.startswith("closed")
-
-    def shown_goals(self, first=1, count=None):
-        """So many goals from this one on, or all, a formula a line behind its place, and how many others there are; or the leaves of a closed
-        proof."""
-        goals, leaves = self.goals(), leaves_in(self.report)
-        if self.is_closed():
-            return ["closed", *(f"  leaf {number}: {leaf}" for number, leaf in enumerate(leaves, 1))]
-        if count == 0:
-            first, count = 1, 1
-        those = list(enumerate(goals, 1))[first - 1 :][:count]
-        told = [line for number, goal in those for line in (f"goal {number} of {len(goals)}", *shown(goal))]
-        others = len(goals) - len(those)
-        return [*told, f"and {others} other goal{'s' * (others > 1)}"] if others else told
-
-    def paths(self, place, goal):
-        """The parts of the formula at a place of a goal, each behind its path."""
-        goals = self.goals()
-        if not 1 <= goal <= len(goals):
-            raise Failure([f"there is no goal {goal}"])
-        left, right = numbered(goals[goal - 1])
-        formula = dict(left + right).get(place)
-        if formula is None:
-            raise Failure([f"there is no formula at place {place} of goal {goal}"])
-        told, waiting = [], [(str(place), texts.formula(formula, Trees()))]
-        while waiting:
-            path, tree = waiting.pop()
-            told.append((path, text_of(tree)))
-            waiting += [(f"{path}.{number}", kid) for number, kid in reversed(list(enumerate(tree.kids)))]
-        width = max(len(path) for path, _ in told)
-        return [f"  {path:<{width}}  {text}" for path, text in told]
-
-    def history(self):
-        """What was done."""
-        return [f"{number:>3}: {line}" for number, line in enumerate(as_typed(self.so_far()), 1)] or ["nothing yet"]
-
-    # What changes it
-
-    def apply(self, goal, strategy):
-        """Runs a strategy on a goal, and answers how many goals it leaves in the goal's place."""
-        strategy = strategy.strip()
-        line = Line(goal, strategy, len(self.goals()))
-        said, _ = self.session([*self.so_far(), line.script(), "show"])
-        if said.status == INPUT_REFUSED and said.text.startswith("refused: script line"):
-            raise Failure(self.why_refused(strategy))
-        replies, report = self.replies(said, len(self.lines) + 1)
-        reply = replies[-1]
-        if not reply.startswith("ok goals "):
-            raise Failure(self.why_failed(line, reply))
-        self.lines.append(line)
-        self.report = report
-        return len(self.goals()) - line.goals_before + 1
-
-    def why_refused(self, strategy):
-        """The refusal of a text that is no strategy, with its place: the program tells it to whoever proves with it."""
-        file = self.place / "strategy"
-        file.write_text(strategy, encoding="latin-1")
-        refusal = refusal_in(answer(self.program, "prove", self.model, file, self.place / "none").text)
-        if refusal is None or refusal.what != "strategy":
-            return ["refused: this is no line of a script"]
-        return [*self.marked(strategy, refusal.byte), f"column {refusal.byte + 1}: refused: {refusal.why}"]
-
-    def why_failed(self, line, reply):
-        """What the program says of a strategy that fails, with its place, and the goals there."""
-        found = FAILURE.fullmatch(reply)
-        if found is None:
-            return [f"there is no goal {line.goal}" if reply == "no-goal" else reply]
-        byte = int(found[2])
-        told = [*self.marked(line.strategy, byte), f"column {byte + 1}: {found[1]}" + (f": {found[3]}" if found[3] else "")]
-        state = self.state(line, byte) if found[1] == "fails" else None
-        if state is None:
-            return told
-        if state.parts is not None:
-            told.append(f"the branch has {state.parts} parts, and there are {state.count} goals")
-        for left, right in state.goals[:MOST_SHOWN]:
-            told += ["it fails on", *shown(" ".join(part for part in (", ".join(left), "==>", ", ".join(right)) if part))]
-        return told
-
-    def state(self, line, byte):
-        """The state where a strategy fails."""
-
-        def run(shortened):
-            """What is shown of the strategy up to there, and the term that it makes."""
-            one_line = " ".join(shortened.split())
-            said, term = self.session([*self.so_far(), line._replace(strategy=one_line).script(), "show", "save"])
-            is_run = has_report(said) and said.text.split("\n")[len(self.lines)].startswith("ok goals ")
-            return (said.text, term) if is_run and term else None
-
-        return state_by(run, line.strategy, byte, self.model.read_bytes().decode("latin-1"), *self.so_far())
-
-    def marked(self, strategy, byte):
-        """The strategy with a caret below a byte."""
-        place = position(strategy, byte)
-        return [f"  {place.source}", f"  {place.caret}"]
-
-    def undo(self):
-        """Takes the last strategy back."""
-        if not self.lines:
-            raise Failure(["nothing to undo"])
-        last = self.lines.pop()
+def whole(ask: Ask, proof: Proof) -> str:
+    """The next line, with those with which it goes on."""
+    lines = [ask(proof, prompt_of(proof))]
+    while goes_on("\n".join(lines)):
         try:
-            self.see()
-        except BaseException:
-            self.lines.append(last)
-            raise
-        return last
+            more = ask(proof, CONTINUED)
+        except EOFError:
+            break
+        if not more.strip():
+            break
+        lines.append(more)
+    return joined(lines)
 
-    def strategy(self):
-        """The strategy that does the same."""
-        return ";\n".join(line.part() for line in self.lines) or "nil"
 
-    def save(self, name):
-        """Writes the strategy, the script and the term, and answers what was written."""
-        files = [name, f"{name}.script", f"{name}.term"]
-        for file in files:
-            self.refuse_to_write(file)
-        said, term = self.session([*self.so_far(), "save"])
-        if term is None:
-            raise Failure([complaint_of(said)])
-        script = "".join(f"{line}\n" for line in (*self.so_far(), "save"))
-        strategy = f"{self.strategy()}\n"
-        for file, data in zip(files, (strategy.encode("latin-1"), script.encode("latin-1"), term)):
-            put_at(data, file)
-            self.written.add(str(Path(file).resolve()))
-        self.saved = list(self.lines)
-        made, again = self.place / "strategy", self.place / "again"
-        made.write_text(strategy, encoding="latin-1")
-        again.unlink(missing_ok=True)
-        answer(self.program, "prove", self.model, made, again)
-        is_same = again.exists() and again.read_bytes() == term
-        told = "`prove` makes the same term of it" if is_same else "but `prove` doesn't make this term of it"
-        return [f"{files[0]}: the strategy, {told}", f"{files[1]}: the script", f"{files[2]}: the term"]
+# What is said
 
-    def refuse_to_write(self, name):
-        """Refuses a file that is an input, or is there and wasn't written here."""
-        if any(are_same_file(name, given) for given in self.inputs):
-            raise Failure([f"{name} is an input: it isn't written over"])
-        path = Path(name)
-        if path.exists() and str(path.resolve()) not in self.written:
-            raise Failure([f"{name} is there already: name another file, or remove it"])
-        if not path.resolve().parent.is_dir():
-            raise Failure([f"{name}: there is no such folder"])
+def shown_goals(proof: Proof, first: int = 1, count: int | None = None) -> list[str]:
+    """So many goals from this one on, or all, a formula a line behind its place, and how many others there are; or the leaves of a closed proof."""
+    goals = proof.goals()
+    if proof.is_closed():
+        return ["closed", *(f"  leaf {number}: {leaf}" for number, leaf in enumerate(proof.leaves(), 1))]
+    if count == 0:
+        first, count = 1, 1
+    those = list(enumerate(goals, 1))[first - 1 :][:count]
+    told = [line for number, goal in those for line in (f"goal {number} of {len(goals)}", *laid_out_goal(goal))]
+    others = len(goals) - len(those)
+    return [*told, f"and {others} other goal{'s' * (others > 1)}"] if others else told
 
-    def unsaved(self):
-        """The script so far, where it isn't saved."""
-        return [] if self.lines == self.saved else as_typed(self.so_far())
+
+def shown_paths(proof: Proof, place: int, goal: int) -> list[str]:
+    """The parts of the formula at a place of a goal, each behind its path."""
+    told, waiting = list[tuple[str, str]](), [(str(place), proof.formula(place, goal))]
+    while waiting:
+        path, tree = waiting.pop()
+        told.append((path, text(tree)))
+        waiting += [(f"{path}.{number}", kid) for number, kid in reversed(list(enumerate(tree.kids)))]
+    width = max(len(path) for path, _ in told)
+    return [f"  {path:<{width}}  {said}" for path, said in told]
+
+
+def shown_suggestions(proof: Proof, number: int) -> list[str]:
+    """What works on a goal, with what is new in the goals that it leaves."""
+    goal, told = proof.goal(number), list[str]()
+    for one in proof.suggestions(number):
+        count = len(one.goals)
+        leaves = f", with the leaf {one.leaves[0]}" if len(one.leaves) == 1 else f", with {len(one.leaves)} leaves" if one.leaves else ""
+        told.append(f"  {one.strategy}: " + (f"leaves {count} goal{'s' * (count > 1)}" if count else "closes it") + leaves)
+        for at, left in enumerate(one.goals, 1):
+            front = f"    {at}) " if count > 1 else "    "
+            first, *others = changes(goal, left)
+            told += [front + first, *(" " * len(front) + other for other in others)]
+    return told or ["nothing of what was tried works: cut, loop, dC, dG and useAt want formulas or names of your own"]
 
 
 class Talk:
-    """Lines of a person, and what is said to each."""
+    """Lines of a person, and what is said to each. The solvers are those that are there."""
 
-    def __init__(self, proof):
-        self.proof, self.is_over = proof, False
+    def __init__(self, proof: Proof, solvers: Solvers | None = None) -> None:
+        self.proof, self.solvers, self.is_over = proof, solvers or Solvers(), False
 
-    def hear(self, line):
+    def hear(self, line: str) -> list[str]:
         """What is said to a line."""
         words = line.split()
         if not words:
@@ -327,112 +137,187 @@ class Talk:
         try:
             return self.told(line.strip(), words)
         except Failure as why:
-            return why.args[0]
+            return why.lines
         except OSError as fault:
             return [f"{fault.filename}: {fault.strerror}" if fault.filename else str(fault)]
 
-    def told(self, line, words):
+    def told(self, line: str, words: Sequence[str]) -> list[str]:
         """The same, where a failure isn't told yet."""
         proof, verb = self.proof, words[0]
-        if verb == "undo" and len(words) == 1:
-            last = proof.undo()
-            return [f"undone: {as_typed([last.script()])[0]}", *proof.shown_goals(last.goal, 1)]
-        if verb in ("goals", "show") and len(words) == 1:
-            return proof.shown_goals()
+        alone: dict[str, Callable[[], list[str]]] = {
+            "undo": self.told_undo, "goals": lambda: shown_goals(proof), "show": lambda: shown_goals(proof), "history": self.told_history,
+            "help": self.told_help, "?": self.told_help, "quit": self.leave, "exit": self.leave,
+        }
+        if verb in alone and len(words) == 1:
+            return alone[verb]()
         if verb == "paths":
             return self.told_paths(words[1:])
-        if verb == "history" and len(words) == 1:
-            return proof.history()
+        if verb == "suggest":
+            return shown_suggestions(proof, self.number(words, 1))
+        if verb == "leaves":
+            return self.told_leaves(self.number(words, 0))
         if verb == "save":
             if len(words) != 2:
                 raise Failure(["save FILE: the name of a file, without spaces"])
             return proof.save(words[1])
-        if verb in ("help", "?") and len(words) == 1:
-            return __doc__.split("\n\n")[2:4]
-        if verb in ("quit", "exit") and len(words) == 1:
-            self.is_over = True
-            return []
         return self.told_apply(line, verb)
 
-    def told_paths(self, words):
+    def number(self, words: Sequence[str], without: int) -> int:
+        """The goal that a command names, or this number where it names none."""
+        if len(words) == 1:
+            return without
+        if len(words) != 2 or not re.fullmatch(r"[1-9]\d{0,8}", words[1]):
+            raise Failure([f"{words[0]} [G]: the number of a goal"])
+        return int(words[1])
+
+    def told_undo(self) -> list[str]:
+        """What stands again where the last line is taken back."""
+        last = self.proof.undo()
+        return [f"undone: {as_typed([last.script()])[0]}", *shown_goals(self.proof, last.goal, 1)]
+
+    def told_history(self) -> list[str]:
+        """What was done."""
+        return [f"{number:>3}: {line}" for number, line in enumerate(as_typed(self.proof.so_far()), 1)] or ["nothing yet"]
+
+    def told_help(self) -> list[str]:
+        """What lines there are."""
+        return (__doc__ or "").split("\n\n")[2:5]
+
+    def leave(self) -> list[str]:
+        """Ends the talk."""
+        self.is_over = True
+        return []
+
+    def told_paths(self, words: Sequence[str]) -> list[str]:
         """The parts of a formula."""
         if not 1 <= len(words) <= 2 or not re.fullmatch(r"-?[1-9]\d*", words[0]) or not all(word.isdigit() for word in words[1:]):
             raise Failure(["paths P [G]: a place, as 1 or -1, and a goal, where it isn't goal 1"])
-        return self.proof.paths(int(words[0]), int(words[1]) if len(words) == 2 else 1)
+        return shown_paths(self.proof, int(words[0]), int(words[1]) if len(words) == 2 else 1)
 
-    def told_apply(self, line, verb):
+    def told_leaves(self, number: int) -> list[str]:
+        """What the solvers say of a goal, or of all goals that are arithmetic and of the leaves."""
+        if not self.solvers.names:
+            raise Failure(["no solver is there: install z3 or cvc5"])
+        if number:
+            return [self.asked(f"goal {number}", self.proof.goal(number)) or f"goal {number} isn't arithmetic"]
+        those = [(f"goal {at}", goal) for at, goal in enumerate(self.proof.goals(), 1)]
+        those += [(f"leaf {at}", leaf) for at, leaf in enumerate(self.proof.leaves(), 1)]
+        return [line for name, sequent in those for line in [self.asked(name, sequent)] if line] or ["no goal is arithmetic, and there are no leaves"]
+
+    def asked(self, name: str, sequent: str) -> str:
+        """What the solvers say of a sequent; nothing where it isn't arithmetic."""
+        try:
+            script = exported_alone(self.proof.program, sequent)
+        except Refused:
+            return ""
+        if script.text is None:
+            return f"{name}: a power has another exponent than a whole number from 1 to 16"
+        said = self.solvers.check(script.text)
+        by = ", ".join(solver for solver, reply in said.by.items() if reply.word is said.word)
+        values = f" at {listed(said.values)}" if said.values else ""
+        return f"{name}: {said.word}{values}" + (f" ({by})" if by else "")
+
+    def told_apply(self, line: str, verb: str) -> list[str]:
         """What a strategy makes."""
         found = APPLY.fullmatch(line)
         if verb == "apply" and not found:
             raise Failure(["apply G STRATEGY: the number of a goal, and a strategy"])
         goal, strategy = (int(found[1]), found[2]) if found else (1, line)
         count = self.proof.apply(goal, strategy.encode("utf-8", "surrogateescape").decode("latin-1"))
-        return self.proof.shown_goals(goal, count)
+        return shown_goals(self.proof, goal, count)
 
 
 # The terminal
 
-def names():
+def names() -> dict[str, list[str]]:
     """The names that are completed."""
-    return json.loads(NAMES.read_text(encoding="utf-8"))
+    known: dict[str, list[str]] = json.loads(NAMES.read_text(encoding="utf-8"))
+    return known
 
 
-def completions(before):
-    """The words that may stand where this text ends, and how many of its letters they replace."""
+def names_of(proof: Proof) -> list[str]:
+    """The names in the model and in the goals, those of constants with their brackets."""
+    said = " ".join([re.sub(r"/\*.*?\*/|//[^\n]*", " ", proof.model.read_bytes().decode("latin-1"), flags=re.DOTALL), *proof.goals()])
+    found = re.findall(r"(?<![\w\\@.])[A-Za-z]\w*(?:\(\))?", said)
+    return sorted(set(found) - {"true", "false"})
+
+
+def completions(before: str, names_in_quotes: Iterable[str] = ()) -> tuple[list[str], int]:
+    """The words that may stand where this text ends, and how many of its letters they replace: in quotes names of formulas."""
     known = names()
     begun = re.search(r"[A-Za-z]\w*$", before)
     word = begun[0] if begun else ""
     front = before[: len(before) - len(word)]
-    if re.search(r"\b(?:useAt|useBack)\(\s*$", front):
+    wanted: Iterable[str]
+    if before.count('"') % 2:
+        wanted = (*names_in_quotes, "true", "false")
+    elif re.search(r"\b(?:useAt|useBack)\(\s*$", front):
         wanted = known["axioms"]
     else:
         wanted = [*known["atoms"], *known["rules"], *known["library"], *(COMMANDS if not front.strip() else ())]
     return sorted(name for name in set(wanted) if name.startswith(word)), len(word)
 
 
-def lines_of_terminal():
-    """Asks for lines at a terminal; what is asked changes with the proof."""
+def asks_terminal() -> Ask:
+    """What asks for lines at a terminal; what is asked changes with the proof."""
     try:
         from prompt_toolkit import PromptSession
-        from prompt_toolkit.completion import Completer, Completion
+        from prompt_toolkit.completion import CompleteEvent, Completer, Completion
+        from prompt_toolkit.document import Document
     except ImportError as fault:
         raise Refused("prompt_toolkit isn't there: Debian has it as python3-prompt-toolkit") from fault
 
     class Names(Completer):
-        """Completes the names of atoms, axioms and commands."""
+        """Completes the names of atoms, axioms and commands, and in quotes those of the model."""
 
-        def get_completions(self, document, complete_event):
-            found, length = completions(document.text_before_cursor)
+        def __init__(self) -> None:
+            self.proof: Proof | None = None
+            self.above = ""
+
+        def get_completions(self, document: Document, complete_event: CompleteEvent) -> Iterable[Completion]:
+            """The words that may stand at the cursor."""
+            found, length = completions(self.above + document.text_before_cursor, names_of(self.proof) if self.proof else ())
             for name in found:
                 yield Completion(name, start_position=-length)
 
-    session = PromptSession(completer=Names(), complete_while_typing=False)
-    return lambda proof: session.prompt(prompt_of(proof))
+    completer = Names()
+    session: PromptSession[str] = PromptSession(completer=completer, complete_while_typing=False)
+
+    def ask(proof: Proof, before: str) -> str:
+        """Asks for a line."""
+        completer.proof = proof
+        if before != CONTINUED:
+            completer.above = ""
+        line = session.prompt(before)
+        completer.above += f"{line}\n"
+        return line
+
+    return ask
 
 
-def prompt_of(proof):
+def prompt_of(proof: Proof) -> str:
     """What stands before a line."""
     count = len(proof.goals())
     return "closed> " if proof.is_closed() else f"{count} goal{'s' * (count > 1)}> "
 
 
-def lines_of_file(proof):
+def asks_file(proof: Proof, before: str) -> str:
     """The next line of standard input, which is shown as it would be at a terminal."""
     line = sys.stdin.readline()
     if not line:
         raise EOFError
-    say([f"{prompt_of(proof)}{line.rstrip()}"])
+    say([f"{before}{line.rstrip()}"])
     return line
 
 
-def say(lines):
+def say(lines: Iterable[str]) -> None:
     """Prints lines."""
     for line in lines:
         print(line)
     sys.stdout.flush()
 
 
-def leave(proof):
+def leave(proof: Proof) -> int:
     """Says at the end what isn't saved, and gives the exit status."""
     unsaved = proof.unsaved()
     if unsaved:
@@ -444,31 +329,37 @@ HELP = "a proof from the terminal, a line at a time, with undo"
 EXAMPLE = "dlkt prompt examples/tutorial/car/model"
 
 
-def add_words(parser):
+def add_words(parser: argparse.ArgumentParser) -> None:
     """The words of the command."""
     parser.add_argument("model", metavar="MODEL")
     parser.add_argument("script", metavar="SCRIPT", nargs="?", help="a script of `dlk session`, whose lines are run first")
+    parser.add_argument("--seconds", type=seconds, default=10, metavar="N", help="for each question to the solvers (10)")
     parser.add_argument("--dlk", metavar="PROGRAM", help="the program (that of this checkout)")
 
 
-def run(given):
+def run(given: argparse.Namespace) -> int:
     """Opens the proof that the words name, and talks of it."""
-    ask = lines_of_terminal() if sys.stdin.isatty() else lines_of_file
-    with tempfile.TemporaryDirectory() as folder:
-        return talked(ask, Proof(folder, program_of(given.dlk), given.model, given.script))
+    is_terminal = sys.stdin.isatty()
+    ask = asks_terminal() if is_terminal else asks_file
+    with tempfile.TemporaryDirectory() as folder, Solvers(seconds=given.seconds) as solvers:
+        proof = Proof(folder, program_of(given.dlk), given.model, given.script)
+        say(shown_goals(proof))
+        return talked(ask, Talk(proof, solvers), is_terminal)
 
 
-def talked(ask, proof):
-    """Hears lines until they end, and gives the exit status."""
-    talk = Talk(proof)
-    say(proof.shown_goals())
-    try:
-        while not talk.is_over:
-            say(talk.hear(ask(proof)))
-    except EOFError:
-        pass
-    except KeyboardInterrupt:
-        leave(proof)
-        print("dlkt prompt: interrupted", file=sys.stderr)
-        return INTERRUPTED
-    return leave(proof)
+def talked(ask: Ask, talk: Talk, is_terminal: bool) -> int:
+    """Hears lines until they end, and gives the exit status. At a terminal control-C clears the line, or stops what is at work."""
+    while not talk.is_over:
+        try:
+            say(talk.hear(whole(ask, talk.proof)))
+        except Failure as why:
+            say(why.lines)
+        except EOFError:
+            break
+        except KeyboardInterrupt:
+            if not is_terminal:
+                leave(talk.proof)
+                print("dlkt prompt: interrupted", file=sys.stderr)
+                return INTERRUPTED
+            talk.solvers.close()
+    return leave(talk.proof)

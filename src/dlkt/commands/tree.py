@@ -20,6 +20,7 @@ as dots. The page has each formula once, as a term of version 2 has it, and make
 """
 import argparse
 import html
+import importlib.resources
 import json
 import pathlib
 import re
@@ -34,7 +35,7 @@ from dlkt.terms import Numbering, Step, Term, read, trees_in
 from dlkt.trees import BRACKETS, PROGRAM, ROWS, Tree, Trees, text
 from dlkt.words import Run, word_runs
 
-PAGES = pathlib.Path(__file__).resolve().parent.parent / "pages"
+PAGES = importlib.resources.files("dlkt") / "pages"
 
 # The premise of each axiomatic rule over its symbols.
 AXIOMATIC = {
@@ -47,7 +48,7 @@ RULE_WORDS = {
 }
 KINDS = ("open", "rule", "axiom", "leaf", "subst", "rename", "again", "start")
 FIRST_BYTES = b"<!doctype html>"  # of a page
-LONG = 80  # letters of a formula with a program that is laid out
+LONG, NARROW = 60, 60  # letters of a formula with a program that is laid out, and the width of its lines
 
 # The formulas on a side, none where one isn't known; and both sides.
 Side = tuple[Tree | None, ...]
@@ -356,6 +357,10 @@ class Table:
         self.more = self.numbering.lines = list[str]()
         self.sequents, self.laid = dict[str, int](), dict[int, str]()
 
+    def text(self) -> str:
+        """The term in version 2."""
+        return "\n".join([*self.term, "done", ""])
+
     def formula(self, tree: Tree | None) -> str:
         """The number of a formula."""
         if tree is None:
@@ -372,7 +377,7 @@ class Table:
         """Has the formulas of a sequent laid out, where they are long and have programs."""
         for tree in (*sequent[0], *sequent[1]):
             if tree is not None and len(text(tree)) > LONG and has_program(tree):
-                self.laid[int(self.formula(tree))] = laid_out(tree)
+                self.laid[int(self.formula(tree))] = laid_out(tree, width=NARROW)
 
     def given(self, depth: int, told: Told) -> dict[str, object]:
         """What the page's script is given: the table of operators, the formulas, the sequents, the nodes in the order of the tree, each with the
@@ -386,9 +391,8 @@ class Table:
         for goal in self.drawing.open:
             if goal.sequent:
                 self.lay_out(goal.sequent)
-        term = "\n".join([*self.term, "done", ""])
         return {
-            "operators": operators(), "term": term, "more": self.more, "sequents": list(self.sequents), "laid": self.laid, "nodes": nodes,
+            "operators": operators(), "term": self.text(), "more": self.more, "sequents": list(self.sequents), "laid": self.laid, "nodes": nodes,
             "words": told.words, "depth": depth,
         }
 

@@ -84,6 +84,7 @@ function made(n) {
 // that begins alike only the part that changed is shown.
 const pairsOf = s => { const [left, right] = placed(sequentOf(s)); return [...left, ...right]; };
 function focus(fresh, old) {
+  if (old.includes(fresh)) return fresh;
   let at = 0;
   while (at < fresh.length && fresh[at] === old[at]) at++;
   while (at > 0 && !/[&|>([{;,\s]/.test(fresh[at - 1])) at--;

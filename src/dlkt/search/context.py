@@ -25,6 +25,10 @@ class OutOfTime(Exception):
     """The bound that the user gave is reached, or control-C."""
 
 
+class IsFalse(Exception):
+    """A run is known that breaks the model."""
+
+
 class OutOfWork(Exception):
     """A method has used up its budget."""
 
@@ -51,6 +55,7 @@ class Search:
         self.left_open = 0
         self.activity = "reading"
         self.stopped = False
+        self.is_broken: Callable[[], bool] = lambda: False
 
     # Bounds
 
@@ -62,6 +67,8 @@ class Search:
         """Ends what has used up its bound."""
         if self.stopped or time.time() > self.end:
             raise OutOfTime
+        if self.is_broken():
+            raise IsFalse
         if self.work() > self.limit:
             raise OutOfWork
 

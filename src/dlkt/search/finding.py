@@ -11,7 +11,8 @@ from typing import NamedTuple
 from dlkt.formulas import model, sequent, text
 from dlkt.program import Refused, one_line, position, program_of, read_bytes, refusal_in
 from dlkt.reader import Note, Wrong
-from dlkt.search.context import OutOfTime, OutOfWork, Search, Step
+from dlkt.search.breaking import Breaking
+from dlkt.search.context import IsFalse, OutOfTime, OutOfWork, Search, Step
 from dlkt.search.kernel import Failed, Goal, Kernel
 from dlkt.search.lemmas import Lemma
 from dlkt.search.shapes import proved
@@ -45,16 +46,23 @@ class Options(NamedTuple):
 
 class Found(NamedTuple):
     """What a search found: a strategy, or none; the lemmas whose proofs are to be linked; how many goals it leaves open; why there is none, or
-    what is left; why each method didn't do; and how long it took, with how many questions to the solver and calls of the program."""
+    what is left; the lines of a run that breaks the model, or an annotation; why each method didn't do; and how long it took, with how many
+    questions to the solver and calls of the program."""
 
     strategy: str | None
     lemmas: list[Lemma]
     left_open: int
     reasons: list[str]
+    values: list[str]
     story: list[Step]
     seconds: float
     questions: int
     calls: int
+
+    @property
+    def is_told_with_values(self) -> bool:
+        """Whether there are values at which the model, an annotation, or what is left to show is false."""
+        return bool(self.values) or any(" at " in reason or ": from " in reason for reason in self.reasons)
 
     @property
     def is_whole(self) -> bool:
@@ -106,11 +114,14 @@ class Finder:
         self.kernel = Kernel(program_of(options.program))
         self.search = Search(self.kernel, self.solver, notes_wanted(notes, options.annotations), options.seconds, proved)
         self.search.guess = options.guess
+        self.breaking = Breaking(source, Path(self.kernel.folder.name))
+        self.search.is_broken = self.breaking.look
         self.lemmas: list[Lemma] = []
         self.was_interrupted = False
 
     def stop(self) -> None:
         """Ends what runs."""
+        self.breaking.stop()
         self.solver.stop()
         self.kernel.stop()
 
@@ -135,6 +146,8 @@ class Finder:
                 self.search.say(f"out of time ({self.options.seconds:g} s)")
         except OutOfWork:
             self.search.say("out of budget")
+        except IsFalse:
+            self.search.say("the model is false")
         except Failed as why:
             self.search.say(str(why))
         return None
@@ -142,7 +155,7 @@ class Finder:
     def partial(self) -> str | None:
         """What was found, and `nil` where nothing was: nothing new is asked, where the search was ended."""
         search = self.search
-        search.partial, search.guess, search.quiet = True, False, 0
+        search.partial, search.guess, search.quiet, search.is_broken = True, False, 0, lambda: False
         search.known = {goal: said for goal, said in search.known.items() if said is not None}
         self.solver.is_silent = search.stopped
         search.stopped, search.limit, search.end = False, float("inf"), time.time() + AFTER
@@ -157,12 +170,16 @@ class Finder:
         """A strategy for the whole model, or what was found of it."""
         search = self.search
         strategy = self.attempt()
+        is_told = any(reason.startswith("the invariant") for reason in search.failures)
+        if strategy is None and not search.stopped and not is_told and self.options.sketch is None:
+            self.breaking.wait(self.begin + self.options.seconds)
         if strategy is None and (self.options.partial or search.stopped):
             strategy = self.partial()
         if strategy is not None:
             strategy = self.taken(strategy)
         spent = time.time() - self.begin
-        return Found(strategy, self.lemmas, search.left_open, search.failures, search.story, spent, self.solver.asked, self.kernel.calls)
+        values = [] if strategy is not None and not search.left_open else self.breaking.lines()
+        return Found(strategy, self.lemmas, search.left_open, search.failures, values, search.story, spent, self.solver.asked, self.kernel.calls)
 
     def taken(self, strategy: str) -> str | None:
         """The strategy where the program takes it as a whole, else none. A sketch may leave goals, as every strategy."""
@@ -196,7 +213,7 @@ def expand_line(sequent_text: str, line: str, options: Options = Options()) -> s
     finder = Finder(text(goal.formula()), options)
     try:
         said = expand(finder.search, goal, line, options.folder)
-    except (OutOfTime, OutOfWork):
+    except (OutOfTime, OutOfWork, IsFalse):
         said = None
         finder.search.say(f"out of time ({options.seconds:g} s)")
     except Failed as why:

@@ -172,7 +172,7 @@ class Simulation:
 def cut_down(formula: Tree, way: list[Turn], place: int) -> str:
     """Words that close `A, [a]Q ==> [s1]..[sk]Q` for a way through a, where the box is the last of so many formulas on the left."""
     words = []
-    for number, (kind, what) in enumerate(way):
+    for turn, (kind, what) in enumerate(way):
         program, post = formula.kids
         if kind == "seq":
             words.append(f"useAt(composeb,-{place})")
@@ -185,7 +185,7 @@ def cut_down(formula: Tree, way: list[Turn], place: int) -> str:
             words.append(seq(f"useAt(iterateb,-{place})", f"andL(-{place})", f"hideL(-{place + 1 if kind == 'stop' else place})"))
             formula = post if kind == "stop" else make("box", "", program.kids[0], make("box", "", program, post))
         else:
-            return seq(*words, f"boxCut({quoted(post)},1)", branch("close", cut_down(post, way[number + 1:], 1)))
+            return seq(*words, f"boxCut({quoted(post)},1)", branch("close", cut_down(post, way[turn + 1:], 1)))
     return seq(*words, "close")
 
 
