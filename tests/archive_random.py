@@ -76,12 +76,15 @@ class Maker:
     def formula(self, depth):
         """A formula."""
         calls = self.calls("Bool")
+        if depth > 1 and self.arguments and self.rng.random() < .15:
+            return self.annotated(depth)
         if depth <= 0 or self.rng.random() < .1:
             if calls and self.rng.random() < .5:
                 return self.call(calls, 1)
             return "cmp", self.rng.choice(list(COMPARE)), self.term(1), self.term(2)
-        kind = self.pick(("cmp", 1), ("&", 2), ("|", 1.5), ("->", 1.5), ("<->", .8), ("!", 1), ("all", 1.5), ("some", 1.5), ("box", 1.5), ("dia", 1),
-                         ("call", 3 if calls else 0))
+        often = 2.5 if self.arguments else 1  # what binds names that arguments may read
+        kind = self.pick(("cmp", 1), ("&", 2), ("|", 1.5), ("->", 1.5), ("<->", .8), ("!", 1), ("all", 1.5), ("some", 1.5), ("box", 1.5 * often),
+                         ("dia", often), ("call", 3 if calls else 0))
         if kind == "call":
             return self.call(calls, 2)
         if kind == "cmp":
@@ -94,6 +97,13 @@ class Maker:
             return kind, self.program(depth - 1), self.formula(depth - 1)
         return kind, self.formula(depth - 1), self.formula(depth - 1)
 
+    def annotated(self, depth):
+        """A modality over a loop with an annotation that reads what the loop changes."""
+        name = self.rng.choice([one for one in VARIABLES if one not in self.arguments])
+        body = ";", (":=", name, self.term(2)), self.program(0)
+        note = "cmp", self.rng.choice(["<", "<=", ">", ">="]), ("name", name), self.term(1)
+        return self.rng.choice(["box", "dia"]), ("loop", body, note), self.formula(depth - 1)
+
     def quantified(self, kind, depth):
         """A formula below a quantifier, which may hide an argument."""
         name, before = self.rng.choice(VARIABLES + EXTRA), self.arguments
@@ -104,10 +114,10 @@ class Maker:
 
     def program(self, depth):
         """A program."""
-        calls, deep = self.calls("HP"), depth > 0
+        calls, deep, often = self.calls("HP"), depth > 0, 3 if self.arguments else 1
         free = [name for name in VARIABLES if name not in self.arguments]
-        kind = self.pick((":=", 3), (":=*", .7), ("?", 1), (";", 2.5 * deep), ("++", deep), ("if", deep), ("loop", .7 * deep), ("ode", .8),
-                         ("call", 2 if calls else 0))
+        kind = self.pick((":=", 3), (":=*", .7), ("?", 1), (";", 2.5 * deep), ("++", deep), ("if", deep), ("loop", .7 * deep * often),
+                         ("ode", .8 * often), ("call", 2 if calls else 0))
         if kind == "call":
             return "call", self.rng.choice(calls), ()
         if kind in (":=", ":=*", "ode") and not free or kind == "?":

@@ -5,6 +5,7 @@ from .declare import BUILT_IN
 from .tree import COMPARE, Node, Refused, key, node
 
 ASSIGNMENTS = ("assign", "dassign")
+MOST_CALLS = 10  # each doubles the cases
 
 
 def is_call(tree: Node) -> bool:
@@ -19,6 +20,11 @@ def first_call(tree: Node) -> Node | None:
         if found:
             return found
     return tree if is_call(tree) else None
+
+
+def calls_in(tree: Node) -> set[tuple[object, ...]]:
+    """The different calls in a tree."""
+    return ({key(tree)} if is_call(tree) else set()).union(*map(calls_in, tree.kids))
 
 
 def replaced(tree: Node, old: tuple[object, ...], new: Node) -> Node:
@@ -73,6 +79,8 @@ def by_cases_here(tree: Node) -> Node:
     call = first_call(tree)
     if call is None:
         return tree
+    if len(calls_in(tree)) > MOST_CALLS:
+        raise Refused(call.place, f"more than {MOST_CALLS} of abs, min and max in one place: write the cases")
     found = []
     for condition, value in cases_of(call):
         rest = by_cases_here(replaced(tree, key(call), value))

@@ -17,7 +17,9 @@ MARKS = COMPARISONS | {"≠": "ne", "≥": "ge", "≤": "le"}
 ARITHMETIC = ("add", "sub", "mul", "div", "pow", "neg")
 CONNECTIVES = ("equiv", "imply", "and", "or", "not", "back")
 ARROWS = ("imply", "equiv", "back")
+ITEMS = ("item", "item_name", "item_primes")
 BLANK = "a blank of an exercise: fill it in"
+SECOND = "a second derivative: write x'=v, v'=.. with a variable for x'"
 TWO_WAYS = "is read in two ways by versions of KeYmaera X: write"
 
 
@@ -74,8 +76,8 @@ class Checker:
             return self.comparison(raw)
         if raw.rule in ("true", "false"):
             return node(raw.rule, at=raw.place)
-        if raw.rule == "blank":
-            raise Refused(raw.place, BLANK)
+        if raw.rule in ("blank", "primes"):
+            raise Refused(raw.place, BLANK if raw.rule == "blank" else SECOND)
         if raw.rule == "num":
             return self.number(raw)
         if raw.rule == "diff":
@@ -199,12 +201,12 @@ class Checker:
 
     def named(self, raw: Raw, sort: str) -> Node:
         """A name, with a prime or with arguments."""
-        word, here = raw.words[0], raw.place
-        name, is_call = name_of(word), raw.rule == "call"
+        word, here, is_call = raw.words[0], raw.place, raw.rule == "call"
+        if word.text == "old" and is_call:
+            return self.old(raw)
+        name = name_of(word)
         if raw.rule == "prime":
             return node("var", detail=self.variable(word) + "'", at=here)
-        if name == "old" and is_call:
-            return self.old(raw)
         if name in self.arguments:
             if is_call:
                 raise Refused(here, f"{name} is an argument, and no function")
@@ -290,8 +292,8 @@ class Checker:
             return node(word, self.term(raw.trees[0]), detail=self.variable(raw.words[0]), at=here)
         if rule == "spaced":
             raise Refused(here, "a program constant with a space, as a{|x|};")
-        if rule == "blank":
-            raise Refused(here, BLANK)
+        if rule in ("blank", "assign_primes"):
+            raise Refused(here, BLANK if rule == "blank" else SECOND)
         return self.symbol(raw.words[0])
 
     def sequence(self, raw: Raw) -> Node:
@@ -350,9 +352,11 @@ class Checker:
     def system(self, raw: Raw) -> Node:
         """Differential equations with their domain."""
         found, terms = list[str](), list[Node]()
-        parts = [kid for kid in raw.trees if kid.rule in ("item", "item_name")]
-        domain = [kid for kid in raw.trees if kid.rule not in ("item", "item_name")]
+        parts = [kid for kid in raw.trees if kid.rule in ITEMS]
+        domain = [kid for kid in raw.trees if kid.rule not in ITEMS]
         for part in parts:
+            if part.rule == "item_primes":
+                raise Refused(part.place, SECOND)
             if part.rule == "item_name":
                 found.append(self.equations(part))
                 continue

@@ -59,6 +59,8 @@ def name_of(word: Word) -> str:
     """A name, which may not be a word of the language."""
     if word.text in ("true", "false"):
         raise Refused(word.place, f"`{word.text}` isn't a name")
+    if word.text == "old":
+        raise Refused(word.place, "old is a word of KeYmaera X, and no name")
     return word.text
 
 
@@ -93,8 +95,6 @@ class Table:
         if old:
             self.refuse_second(symbol, old)
             self.hint(symbol.place, f"{symbol.name} is declared twice in the same way")
-        if symbol.name == "old":
-            raise Refused(symbol.place, "old is a word of KeYmaera X, and no name")
         if symbol.name in BUILT_IN and symbol.brackets and not is_built_in(symbol):
             raise Refused(symbol.place, f"{symbol.name} is a function of KeYmaera X, and has its meaning there: take another name")
         self.symbols[symbol.name] = symbol

@@ -135,7 +135,8 @@ def readme_file(model: Model, archive: str, tactics: list[Carried]) -> str:
     for tactic in tactics:
         lines += ["", f"Tactic {tactic.name}:", ""]
         if tactic.sketches:
-            lines += [f"- {said(place)}: {text}" for place, text in tactic.sketches.notes] or ["- each word has a counterpart"]
+            lines.append("- each word has a counterpart" if is_strategy(tactic.sketches.tries[0]) else "- the search takes over where `auto` stands")
+            lines += [f"- {said(place)}: {text}" for place, text in tactic.sketches.notes]
         elif tactic.fault:
             lines.append(f"- not carried over: {said(tactic.fault.place)}: {tactic.fault.reason}")
     return marked("Written by ", ".", "\n".join(["", *lines]) + "\n")

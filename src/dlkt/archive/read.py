@@ -6,7 +6,7 @@ from typing import Iterator, NamedTuple
 
 from lark.exceptions import UnexpectedCharacters, UnexpectedEOF, UnexpectedInput, UnexpectedToken
 
-from .syntax import Raw, expected, parsed
+from .syntax import Raw, TooDeep, expected, parsed
 from .tree import Place, Refused
 
 SKIPPED = r'"[^"]*"|\{`.*?`\}|/\*.*?\*/|//[^\n]*'
@@ -135,7 +135,7 @@ def parsed_part(source: str, start: int, end: int, rule: str) -> Raw:
         if fault.token.type == "$END":
             raise Refused(last, f"the entry ends too soon{wanted(fault)}") from None
         raise Refused((fault.token.line or 1, fault.token.column or 1), f"`{fault.token}` can't stand here{wanted(fault)}") from None
-    except RecursionError:
+    except (RecursionError, TooDeep):
         raise Refused(place_of(source, start), "the entry has too many brackets within brackets") from None
 
 

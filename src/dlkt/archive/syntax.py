@@ -8,8 +8,11 @@ from typing import Callable, Iterator
 from lark import Lark, Token, Tree
 from lark.exceptions import UnexpectedInput
 
+from dlkt.trees import MOST_DEPTH
+
 from .tree import NOWHERE, Place
 
+MOST_LEVELS = 3 * MOST_DEPTH
 ENTRY_RULES = ["entry", "whole", "shared", "expression", "term", "equations"]
 
 
@@ -55,14 +58,20 @@ def grammar(name: str) -> Lark:
     return Lark(text, parser="lalr", start=start, propagate_positions=True, maybe_placeholders=False)
 
 
-def raw_of(found: Tree[Token], at: Callable[[int, int], Place]) -> Raw:
+class TooDeep(Exception):
+    """A text has more brackets within brackets than can be read."""
+
+
+def raw_of(found: Tree[Token], at: Callable[[int, int], Place], level: int = 0) -> Raw:
     """Our tree of lark's, with places as a function has them."""
+    if level > MOST_LEVELS:
+        raise TooDeep
     kids: list[Raw | Word] = []
     for kid in found.children:
         if isinstance(kid, Token):
             kids.append(Word(kid.type, str(kid), at(kid.line or 1, kid.column or 1)))
         else:
-            kids.append(raw_of(kid, at))
+            kids.append(raw_of(kid, at, level + 1))
     place = NOWHERE if found.meta.empty else at(found.meta.line, found.meta.column)
     return Raw(str(found.data), tuple(kids), place)
 
@@ -73,7 +82,7 @@ def same(line: int, column: int) -> Place:
 
 
 def parsed(name: str, text: str, rule: str, at: Callable[[int, int], Place] = same) -> Raw:
-    """What a grammar reads of a text by a rule. Raises lark's UnexpectedInput."""
+    """What a grammar reads of a text by a rule. Raises lark's UnexpectedInput, and TooDeep."""
     found = grammar(name).parse(text, start=rule)
     return raw_of(found, at)
 

@@ -11,7 +11,7 @@ from lark.exceptions import UnexpectedEOF, UnexpectedInput
 
 from .models import Model
 from .read import Tactic
-from .syntax import Raw, Word, parsed
+from .syntax import Raw, TooDeep, Word, parsed
 from .tactic_words import (AUTO, AXIOMS, BY_TITLE, GOALS, LABELS, LEAVES, LEFT_RULES, MOST_REPEATS, NOTHING, ONE_STEP, PASSED, PLAIN, POSITIONAL,
                            RIGHT_RULES, SEARCHES, UNFOLDS, USUAL_REPEATS)
 from .tree import Node, Place, Refused, bound, free, names, node
@@ -107,7 +107,7 @@ class Translator:
         source = unquoted(word)
         try:
             return parsed("grammar", source, rule, lambda line, column: word.place).trees[0]
-        except UnexpectedInput:
+        except (UnexpectedInput, TooDeep):
             raise Untranslated(word.place, f"`{source}` isn't read") from None
 
     def formula(self, word: Word) -> Node:
@@ -438,6 +438,8 @@ def tree_of(tactic: Tactic) -> Raw:
         return parsed("tactic", tactic.text, "start", at)
     except UnexpectedEOF:
         raise Untranslated(tactic.place, "the tactic ends too soon") from None
+    except TooDeep:
+        raise Untranslated(tactic.place, "the tactic has too many brackets within brackets") from None
     except UnexpectedInput as fault:
         raise Untranslated(at(max(fault.line, 1), max(fault.column, 1)), "this isn't a tactic that is known here") from None
 

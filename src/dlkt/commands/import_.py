@@ -60,6 +60,9 @@ class Importer:
         if model is None:
             assert fault is not None
             print(line_at(self.archive, fault.place, f"{one.read.entry.name}: refused: {fault.reason}"))
+            old = Path(self.options.folder) / one.stem / "model"
+            if not self.options.print and old.exists():
+                print(f"{one.read.entry.name}: {one_line(str(old))} was there before, and is not of this archive")
             self.status = NOT_READ
             return
         for line in lines_of_hints(self.archive, model) if not self.options.print else ():
