@@ -34,7 +34,8 @@ class Texts:
 
     def __init__(self, rng: random.Random, pool: Sequence[str] = (), has_symbols: bool = False) -> None:
         self.rng, self.pool, self.has_symbols = rng, list(pool or VARIABLES), has_symbols
-        self.primes, self.divisions, self.differentials = rng.choice([0.0, 0.05, 0.15]), rng.choice([0.0, 0.0, 0.1, 0.2]), rng.choice([0.0, 0.05, 0.12])
+        self.primes, self.divisions = rng.choice([0.0, 0.05, 0.15]), rng.choice([0.0, 0.0, 0.1, 0.2])
+        self.differentials = rng.choice([0.0, 0.05, 0.12])
 
     def one(self, *weighted: tuple[float, Making]) -> str:
         """What one of these makes, drawn by their weights."""
@@ -71,7 +72,8 @@ class Texts:
         if part < self.divisions + self.differentials:
             return f"({self.term(depth - 1)})'"
         exponent = self.rng.choice(["2", "2", "3", "1", "0", "-1" if self.divisions else "2"])
-        return self.rng.choice([f"({one}+{other})"] * 5 + [f"({one}-{other})"] * 4 + [f"({one}*{other})"] * 4 + [f"(-{one})", f"({one})^{exponent}", self.atom(dots)])
+        joined = [f"({one}+{other})"] * 5 + [f"({one}-{other})"] * 4 + [f"({one}*{other})"] * 4
+        return self.rng.choice([*joined, f"(-{one})", f"({one})^{exponent}", self.atom(dots)])
 
     def comparison(self, depth: int, dots: int = 0) -> str:
         """A comparison."""
@@ -168,8 +170,7 @@ def congruent(name: str, rng: random.Random) -> dict[str, str]:
     """What the premise of a rule speaks of, so that it is valid mostly."""
     if name not in RULES or rng.random() >= 0.85:
         return {}
-    one, other = rng.choice([rng.sample(pair, 2) for pair in [rng.choice(EQUAL if name in ("CT", "CQ") else EQUIVALENT)]])
-    one, other = with_names_swapped(rng, one, other)
+    one, other = with_names_swapped(rng, *rng.sample(rng.choice(EQUAL if name in ("CT", "CQ") else EQUIVALENT), 2))
     if name in ("G", "allgen"):
         return {"p": f"(({one})<->({other}))"}
     return {"f": one, "g": other, "p": one, "q": other}

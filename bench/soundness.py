@@ -238,7 +238,8 @@ class Tally:
         refused = ", ".join(f"{part} {number}" for part, number in self.refused.items())
         print(f"refused by dlk: {refused or 'none'}")
         print("invalid and flagged: " + (", ".join(f"{reason} {number}" for (_, reason), number in sorted(self.reasons.items())) or "none"))
-        print(f"wrong guards caught: {len(self.caught)} of {len(Mistake)}; not caught: {[one.name for one in Mistake if one.name not in self.caught] or 'none'}")
+        passed = [one.name for one in Mistake if one.name not in self.caught]
+        print(f"wrong guards caught: {len(self.caught)} of {len(Mistake)}; not caught: {', '.join(passed) or 'none'}")
         if self.counts["planted", "tried"]:
             print(f"planted mistakes caught: {self.counts['planted', 'caught']} of {self.counts['planted', 'tried']}")
         whole = sum(number for (_, word), number in self.counts.items() if word == "tried")
@@ -273,6 +274,8 @@ def main(words: list[str]) -> int:
     begin, tally = time.monotonic(), Tally()
     out = options.out.open("w") if options.out else None
     work = list(batches(options.count, options.parts.split(",")))
+    with tempfile.TemporaryDirectory() as folder:
+        Campaign(Path(folder), options.seed).ask_facts()
     for kept in results(work, options.seed, begin + options.seconds):
         tally.add(kept)
         if out and kept["verdict"] != "valid":
