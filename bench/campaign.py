@@ -38,8 +38,9 @@ class Campaign:
 
     known: dict[str, Row] = {}  # the axioms and rules that the program was asked for, for all processes behind that
 
-    def __init__(self, folder: Path, seed: int) -> None:
+    def __init__(self, folder: Path, seed: int, patience: float = 1.0) -> None:
         self.program, self.seed = Program(folder), seed
+        self.milliseconds, self.for_premises = int(MILLISECONDS * patience), int(PREMISE_MILLISECONDS * patience)
 
     def batch(self, part: str, number: int, count: int) -> Iterator[Kept]:
         """The things of a batch. The same seed, part, number and count make the same."""
@@ -76,12 +77,12 @@ class Campaign:
     def verdict(self, tree: Tree, rng: random.Random, guard: str) -> Kept:
         """What the semantics says of a conclusion."""
         try:
-            return told(deciding.decided(tree, MILLISECONDS, sampling=rng))
+            return told(deciding.decided(tree, self.milliseconds, sampling=rng))
         except syntax.Unsupported as why:
             if str(why) != "a pole":
                 return {"verdict": "unsupported", "why": str(why)}
         try:
-            both = [deciding.decided(tree, MILLISECONDS, how, rng).verdict for how in (Poles.PASSED, Poles.STOPPED)]
+            both = [deciding.decided(tree, self.milliseconds, how, rng).verdict for how in (Poles.PASSED, Poles.STOPPED)]
         except syntax.Unsupported as why:
             return {"verdict": "unsupported", "why": str(why)}
         if both == [Verdict.VALID, Verdict.VALID]:
@@ -93,7 +94,7 @@ class Campaign:
     def premise(self, trees: Sequence[Tree]) -> bool:
         """Whether premises are known to be valid."""
         try:
-            return all(deciding.decided(tree, PREMISE_MILLISECONDS).verdict == Verdict.VALID for tree in trees)
+            return all(deciding.decided(tree, self.for_premises).verdict == Verdict.VALID for tree in trees)
         except syntax.Unsupported:
             return False
 

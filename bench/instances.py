@@ -241,9 +241,9 @@ class Pairing:
             return self.making.comparison(self.rng.choice([1, 1, 2])) if self.rng.random() < 0.6 else self.making.formula(1)
         if self.name in ("DI", "DG", "DC", "DS", "DW", "DWeq") and name == "q":
             variable = self.rng.choice(VARIABLES)
+            near = [f"{variable}'=0", f"{variable}'=0&{self.making.comparison(1, arguments)}", f"{variable}>0", f"{variable}!=0", f"{variable}'>=0"]
             return self.rng.choice([
-                "true", "true", self.making.comparison(1, arguments), self.making.comparison(0, arguments), f"{variable}'=0",
-                f"{variable}'=0&{self.making.comparison(1, arguments)}", f"{variable}>0", f"{variable}!=0", f"{variable}'>=0", self.making.formula(1, arguments)])
+                "true", "true", self.making.comparison(1, arguments), self.making.comparison(0, arguments), self.making.formula(1, arguments), *near])
         return self.making.formula(0 if self.is_small else self.rng.choice([0, 1, 1, 2]), arguments)
 
 
@@ -259,7 +259,9 @@ JUMPS = [
     "{d}/{d}=1", "{d}/{d}>=1", "{d}*{d}*(1/({d}*{d}))=1", "{d}^2*{d}^-2=1", "{d}*(1/{d})>0", "2*({d}/{d})>=2", "{d}/{d}!=0", "(1/{d})*{d}=1", "1={d}/{d}",
     "0<{d}*(1/{d})", "{d}^-1*{d}>=1", "0!={d}/{d}"]
 FROZEN = [
-    "{v}'=0", "{v}'=0", "{v}'=0", "{v}'=0", "0={v}'", "({v})'=0", "({v}'<=0&{v}'>=0)", "{v}'=1", "{v}'*1=0", "({v}'=0|{v}=0)", "{v}'>=0", "{v}=0", "({v}'=0|x=x)"]
+    "{v}'=0", "{v}'=0", "{v}'=0", "{v}'=0", "0={v}'", "({v})'=0", "({v}'<=0&{v}'>=0)", "{v}'=1", "{v}'*1=0", "({v}'=0|{v}=0)", "{v}'>=0", "{v}=0",
+    "({v}'=0|x=x)"]
+COEFFICIENTS = ["0", "0", "1", "k()", "x", "x^2", "2/x", "1/x", "-1/x", "3/x", "1/(x-1)", "2/(x+z)", "1/0", "x/2", "1/k()", "x'", "2/(x*x)", "1/x^2"]
 NEW_SLOPE = ["{v}'=0", "{v}'>=0", "{v}'=1", "{v}'!=0", "({v})'>=-1"]
 OWN_SLOPE = ["{v}'+1", "1+{v}'", "2*{v}'+z", "-{v}'", "2+{v}'"]
 
@@ -301,9 +303,8 @@ class Border:
     def formula(self, names: Sequence[str]) -> str:
         """What DI is to prove."""
         one, other, last = (self.comparison(names) for _ in range(3))
-        return self.rng.choice([
-            one, one, one, one, one, one, f"({one}&{other})", f"({one}|{other})", f"!({one})", f"({one}->{other})", f"(({one}|{other})&!({last}))", "false", "true",
-            f"({one}<->{other})", f"({one}&{other})"])
+        joined = [f"({one}&{other})", f"({one}|{other})", f"!({one})", f"({one}->{other})", f"(({one}|{other})&!({last}))", f"({one}<->{other})"]
+        return self.rng.choice([one] * 6 + [*joined, f"({one}&{other})", "false", "true"])
 
     def jump(self, evolved: Sequence[str]) -> str:
         """A comparison of what is constant but for a jump where a divisor is 0: its written differential is 0."""
@@ -357,9 +358,7 @@ class Border:
             if self.rng.random() < 0.25:
                 self.domain.append(self.rng.choice(["{d}!=0", "{d}>0", "0>{d}", "{d}>=0", "!({d}=0)", "{d}>1", "x'>=0"]).replace("{d}", divisor))
         proves = self.rng.choice(["x!=0", "x<1", "x>=-1", "x!=1", "x^2!=4", "false", "x>z", "x'=1", "x<=1"])
-        factor, summand = (
-            self.rng.choice(["0", "0", "1", "k()", "x", "x^2", "2/x", "1/x", "-1/x", "3/x", "1/(x-1)", "2/(x+z)", "1/0", "x/2", "1/k()", "x'", "2/(x*x)", "1/x^2"])
-            for _ in range(2))
+        factor, summand = (self.rng.choice(COEFFICIENTS) for _ in range(2))
         if self.rng.random() < 0.4:
             factor, summand = self.rng.choice([(factor, "0"), ("0", summand)])
         return f"{{c{{|y_|}}}}~>{{{equations}}},q(|y_|)~>{'&'.join(self.domain) or 'true'},p(|y_|)~>{proves},term a(|y_|)~>{factor},term b(|y_|)~>{summand}"

@@ -260,5 +260,3 @@ def one_change(lines: list[str], rng: random.Random) -> list[str] | None:
         body = rest[len(facts):]
         found[place] = f"{word} {facts}{re.sub(pattern, other, body, count=0 if len(chosen) > 1 else 1)}"
     return found if found != lines else None
-
-
