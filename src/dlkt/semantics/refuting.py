@@ -24,7 +24,7 @@ from dlkt.semantics.values import State, Value
 from dlkt.trees import Tree, text
 
 SECONDS, ROUNDS = 20.0, 3
-HINT_SECONDS = 1.0  # for each question on an annotation
+HINT_SECONDS, HINTS_PART = 3.0, 0.5  # for each question on an annotation, and for all a part of the time of the search
 EXACT_PART = 0.5  # of the time, where a search by numbers may follow
 SIMPLE = [Fraction(value) for value in ("1", "0", "2", "1/2", "-1", "3", "4", "5", "10", "1/4", "-1/2", "-2")]
 ROUND_MILLISECONDS, ROUND_SECONDS = 40, 0.12  # of the clock for a question, of the processor for all
@@ -54,11 +54,16 @@ def refuted(model: Tree, settings: Settings = Settings()) -> Answer:
 
 
 def answered(model: Tree, notes: Sequence[Note], settings: Settings) -> Answer:
-    """What comes of the search, with hints on the annotations."""
+    """What comes of the search, with hints on the annotations, for which half as much time is taken again."""
     answer = refuted(model, settings)
-    small = Settings(min(HINT_SECONDS, settings.seconds / 4), 0, settings.seed)
-    found = invariants.hints(model, notes, lambda question: searched(question, small)[0])
-    return answer._replace(hints=found)
+    clock = Clock(settings.seconds * HINTS_PART)
+
+    def search(question: Tree) -> Run | None:
+        """A run that breaks a small model, where there is time left."""
+        small = Settings(min(HINT_SECONDS, clock.left()), 0, settings.seed)
+        return searched(question, small)[0] if clock.left() > 0 else None
+
+    return answer._replace(hints=invariants.hints(model, notes, search))
 
 
 def searched(model: Tree, settings: Settings) -> tuple[Run | None, str]:
