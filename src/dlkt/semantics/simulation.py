@@ -218,7 +218,8 @@ def bounds(test: Tree, name: str, state: Floats) -> tuple[list[float], list[floa
     for part in parts_of(test, "and"):
         if part.word not in ("ge", "gt", "le", "lt", "eq"):
             continue
-        for one, other, is_left in ((*part.kids, True), (*part.kids[::-1], False)):
+        left, right = part.kids
+        for one, other, is_left in ((left, right, True), (right, left, False)):
             if one.word == "var" and one.detail == name and name not in reads(other):
                 bound = value(other, state)
                 if part.word == "eq" or (part.word in ("ge", "gt")) == is_left:
