@@ -323,6 +323,17 @@ class Border:
         name = self.rng.choice(list(evolved))
         return self.rng.choice(["({v}'-1)*({v}'-1)=0", "(({v})'-1)^2=0", "(({v}')-2)^2=0", "({v}'-1)^2<=0", "(({v})'+1)^2=0"]).replace("{v}", name)
 
+    def drift(self) -> str:
+        """The pairs of an instance of DI that compares an evolved variable with another one, which is frozen or nearly so: where that has the
+        same slope by its primed variable, the written differential holds."""
+        one, other = self.rng.sample(VARIABLES, 2)
+        slope = self.rng.choice(["1", "1", "-1", "k()", f"{other}'"])
+        proves = self.rng.choice(["{a}={b}", "{a}<={b}", "{b}>={a}", "{a}-{b}<=0", "{a}>={b}", "{b}<={a}", "{a}!={b}+1"]).format(a=one, b=other)
+        self.domain.append(self.rng.choice(FROZEN[3:]).replace("{v}", other))
+        if self.rng.random() < 0.3:
+            self.domain.append(self.rng.choice([f"{one}>=0", f"{other}>=0", f"{one}<=3"]))
+        return f"{{c}}~>{{{one}'={slope}}},q(||)~>{'&'.join(self.domain)},p(||)~>{proves}"
+
     def rights(self, evolved: Sequence[str]) -> dict[str, str]:
         """The right sides of a system."""
         first = evolved[0]
@@ -336,6 +347,8 @@ class Border:
 
     def invariant(self) -> str:
         """The pairs of an instance of DI."""
+        if self.rng.random() < 0.12:
+            return self.drift()
         evolved = self.rng.choice([["x"], ["y"], ["x", "y"], ["y", "x"]])
         names = list(evolved) if self.rng.random() < 0.5 else VARIABLES
         part = self.rng.random()
