@@ -17,7 +17,7 @@ from dlkt.semantics.deciding import Verdict
 from dlkt.semantics.systems import Poles
 from dlkt.trees import Tree, text
 from instances import Border, Pairing, RULES, Texts, VARIABLES, EQUIVALENT, with_names_swapped
-from proving import changed_terms, forward_proof, library_model, sequent_of_rule
+from proving import Examples, changed_terms, forward_proof, library_model, sequent_of_rule
 from planted import caught, changes_of
 from rows import Instance, Program, Replacing, Row, TREES, accepted, is_well_made, may_capture, renamed, sequent_tree, symbols
 from twin import Mistake, Twin
@@ -63,10 +63,12 @@ class Campaign:
         row = self.known[name]
         return sequent_tree(row.conclusion), tuple(map(sequent_tree, row.goals))
 
-    def ask_facts(self) -> None:
-        """Asks the program for all axioms and axiomatic rules."""
+    def ask_facts(self, with_examples: bool) -> None:
+        """Asks the program for all axioms and axiomatic rules, and maybe for the terms of the examples."""
         for name in (*AXIOMS, *RULES):
             self.fact(name)
+        if with_examples:
+            Examples.all(self.program)
 
     def known_axioms(self) -> tuple[str, ...]:
         """The names of the axioms of which forward proofs are made."""

@@ -279,19 +279,27 @@ def options_of(words: list[str]) -> argparse.Namespace:
     return options
 
 
+def ended(*_: object) -> None:
+    """Ends a campaign that is told to end: with its table, and with nothing left running."""
+    raise KeyboardInterrupt
+
+
 def main(words: list[str]) -> int:
     """Runs a campaign."""
     options = options_of(words)
-    signal.signal(signal.SIGTERM, lambda *_: sys.exit(143))  # so that nothing is left running
+    signal.signal(signal.SIGTERM, ended)
     begin, tally = time.monotonic(), Tally()
     out = options.out.open("w") if options.out else None
     work = list(batches(options.count, options.parts.split(",")))
     with tempfile.TemporaryDirectory() as folder:
-        Campaign(Path(folder), options.seed).ask_facts()
-    for kept in results(work, Settings(options.seed, options.patience), begin + options.seconds):
-        tally.add(kept)
-        if out and kept["verdict"] != "valid":
-            print(json.dumps(kept), file=out, flush=True)
+        Campaign(Path(folder), options.seed).ask_facts("changed" in options.parts)
+    try:
+        for kept in results(work, Settings(options.seed, options.patience), begin + options.seconds):
+            tally.add(kept)
+            if out and kept["verdict"] != "valid":
+                print(json.dumps(kept), file=out, flush=True)
+    except KeyboardInterrupt:
+        print("interrupted")
     is_good = tally.report(time.monotonic() - begin)
     if options.names:
         for name in sorted({name for name, _ in tally.by_name}):
