@@ -17,15 +17,16 @@ from dlkt.semantics.deciding import Verdict
 from dlkt.semantics.systems import Poles
 from dlkt.trees import Tree, text
 from instances import Border, Pairing, RULES, Texts, VARIABLES, EQUIVALENT, with_names_swapped
-from proving import changed_terms, forward_proof, library_model, sequent_of_rule
+from proving import Examples, changed_terms, forward_proof, library_model, sequent_of_rule
 from planted import caught, changes_of
-from rows import Instance, Program, Replacing, Row, TREES, accepted, may_capture, renamed, sequent_tree, symbols
+from rows import Instance, Program, Replacing, Row, TREES, accepted, is_well_made, may_capture, renamed, sequent_tree, symbols
 from twin import Mistake, Twin
 
 Kept = dict[str, Any]
 PARTS = ("axioms", "border", "congruence", "rules", "proofs", "library", "changed", "planted")
 AXIOMS = tuple(calculus.AXIOMS)
 MILLISECONDS, PREMISE_MILLISECONDS = 800, 500
+DRAWN = 6
 READINGS = ("w'=w'+1", "w'=1", "x'=1,y'=-1")  # of a constant of differential equations that is left
 RULE_NAMES = tuple(calculus.PREMISES)
 TWIN, WRONG_TWINS = Twin(), [Twin(mistake) for mistake in Mistake]
@@ -35,9 +36,11 @@ OWN_NAMES = re.compile(r"\b([xyts]_)")
 class Campaign:
     """Makes things and asks what they are."""
 
-    def __init__(self, folder: Path, seed: int) -> None:
+    known: dict[str, Row] = {}  # the axioms and rules that the program was asked for, for all processes behind that
+
+    def __init__(self, folder: Path, seed: int, patience: float = 1.0) -> None:
         self.program, self.seed = Program(folder), seed
-        self.known: dict[str, Row] = {}
+        self.milliseconds, self.for_premises = int(MILLISECONDS * patience), int(PREMISE_MILLISECONDS * patience)
 
     def batch(self, part: str, number: int, count: int) -> Iterator[Kept]:
         """The things of a batch. The same seed, part, number and count make the same."""
@@ -60,6 +63,13 @@ class Campaign:
         row = self.known[name]
         return sequent_tree(row.conclusion), tuple(map(sequent_tree, row.goals))
 
+    def ask_facts(self, with_examples: bool) -> None:
+        """Asks the program for all axioms and axiomatic rules, and maybe for the terms of the examples."""
+        for name in (*AXIOMS, *RULES):
+            self.fact(name)
+        if with_examples:
+            Examples.all(self.program)
+
     def known_axioms(self) -> tuple[str, ...]:
         """The names of the axioms of which forward proofs are made."""
         return tuple(name for name in AXIOMS if name not in ("DI", "DG"))
@@ -69,12 +79,12 @@ class Campaign:
     def verdict(self, tree: Tree, rng: random.Random, guard: str) -> Kept:
         """What the semantics says of a conclusion."""
         try:
-            return told(deciding.decided(tree, MILLISECONDS, sampling=rng))
+            return told(deciding.decided(tree, self.milliseconds, sampling=rng))
         except syntax.Unsupported as why:
             if str(why) != "a pole":
                 return {"verdict": "unsupported", "why": str(why)}
         try:
-            both = [deciding.decided(tree, MILLISECONDS, how, rng).verdict for how in (Poles.PASSED, Poles.STOPPED)]
+            both = [deciding.decided(tree, self.milliseconds, how, rng).verdict for how in (Poles.PASSED, Poles.STOPPED)]
         except syntax.Unsupported as why:
             return {"verdict": "unsupported", "why": str(why)}
         if both == [Verdict.VALID, Verdict.VALID]:
@@ -86,7 +96,7 @@ class Campaign:
     def premise(self, trees: Sequence[Tree]) -> bool:
         """Whether premises are known to be valid."""
         try:
-            return all(deciding.decided(tree, PREMISE_MILLISECONDS).verdict == Verdict.VALID for tree in trees)
+            return all(deciding.decided(tree, self.for_premises).verdict == Verdict.VALID for tree in trees)
         except syntax.Unsupported:
             return False
 
@@ -144,7 +154,8 @@ class Campaign:
         """An instance, mostly one that looks admissible."""
         for _ in range(8):
             instance, pairs, row = self.drawn_instance(name, rng)
-            if not may_capture(row, pairs) or rng.random() < 0.1:
+            is_whole = all(map(is_well_made, [instance.conclusion, *instance.goals]))
+            if is_whole and (not may_capture(row, pairs) or rng.random() < 0.1):
                 return instance
         return None
 
@@ -190,7 +201,7 @@ class Campaign:
                 pairs = "q(||)~>true,p(||)~>" + rng.choice(["false", "x>=0", "x!=y"])
             instance = Instance(name, (f"axiom {name}", f"subst 1 {pairs}"), Replacing(pairs).tree(conclusion), ())
             (left if has_constant else found).append(instance)
-        yield from self.judged(found, rng)
+        yield from self.judged([instance for instance in found if is_well_made(instance.conclusion)], rng)
         for instance in left:
             yield self.judged_by_readings(instance, rng)
 
@@ -268,9 +279,13 @@ class Campaign:
             yield kept
 
     def library(self, rng: random.Random, number: int, count: int) -> Iterator[Kept]:
-        """Models proved by the library."""
+        """Models proved by the library, those whose leaves are valid mostly."""
         for _ in range(count):
-            yield self.judged_term(*library_model(self.program, rng), rng)
+            for _ in range(DRAWN):
+                kept = self.judged_term(*library_model(self.program, rng), rng)
+                if kept["verdict"] != "premise":
+                    break
+            yield kept
 
     def changed(self, rng: random.Random, number: int, count: int) -> Iterator[Kept]:
         """Terms of the examples with a line changed."""

@@ -34,7 +34,8 @@ class Texts:
 
     def __init__(self, rng: random.Random, pool: Sequence[str] = (), has_symbols: bool = False) -> None:
         self.rng, self.pool, self.has_symbols = rng, list(pool or VARIABLES), has_symbols
-        self.primes, self.divisions, self.differentials = rng.choice([0.0, 0.05, 0.15]), rng.choice([0.0, 0.0, 0.1, 0.2]), rng.choice([0.0, 0.05, 0.12])
+        self.primes, self.divisions = rng.choice([0.0, 0.05, 0.15]), rng.choice([0.0, 0.0, 0.1, 0.2])
+        self.differentials = rng.choice([0.0, 0.05, 0.12])
 
     def one(self, *weighted: tuple[float, Making]) -> str:
         """What one of these makes, drawn by their weights."""
@@ -71,7 +72,8 @@ class Texts:
         if part < self.divisions + self.differentials:
             return f"({self.term(depth - 1)})'"
         exponent = self.rng.choice(["2", "2", "3", "1", "0", "-1" if self.divisions else "2"])
-        return self.rng.choice([f"({one}+{other})"] * 5 + [f"({one}-{other})"] * 4 + [f"({one}*{other})"] * 4 + [f"(-{one})", f"({one})^{exponent}", self.atom(dots)])
+        joined = [f"({one}+{other})"] * 5 + [f"({one}-{other})"] * 4 + [f"({one}*{other})"] * 4
+        return self.rng.choice([*joined, f"(-{one})", f"({one})^{exponent}", self.atom(dots)])
 
     def comparison(self, depth: int, dots: int = 0) -> str:
         """A comparison."""
@@ -168,8 +170,7 @@ def congruent(name: str, rng: random.Random) -> dict[str, str]:
     """What the premise of a rule speaks of, so that it is valid mostly."""
     if name not in RULES or rng.random() >= 0.85:
         return {}
-    one, other = rng.choice([rng.sample(pair, 2) for pair in [rng.choice(EQUAL if name in ("CT", "CQ") else EQUIVALENT)]])
-    one, other = with_names_swapped(rng, one, other)
+    one, other = with_names_swapped(rng, *rng.sample(rng.choice(EQUAL if name in ("CT", "CQ") else EQUIVALENT), 2))
     if name in ("G", "allgen"):
         return {"p": f"(({one})<->({other}))"}
     return {"f": one, "g": other, "p": one, "q": other}
@@ -240,9 +241,9 @@ class Pairing:
             return self.making.comparison(self.rng.choice([1, 1, 2])) if self.rng.random() < 0.6 else self.making.formula(1)
         if self.name in ("DI", "DG", "DC", "DS", "DW", "DWeq") and name == "q":
             variable = self.rng.choice(VARIABLES)
+            near = [f"{variable}'=0", f"{variable}'=0&{self.making.comparison(1, arguments)}", f"{variable}>0", f"{variable}!=0", f"{variable}'>=0"]
             return self.rng.choice([
-                "true", "true", self.making.comparison(1, arguments), self.making.comparison(0, arguments), f"{variable}'=0",
-                f"{variable}'=0&{self.making.comparison(1, arguments)}", f"{variable}>0", f"{variable}!=0", f"{variable}'>=0", self.making.formula(1, arguments)])
+                "true", "true", self.making.comparison(1, arguments), self.making.comparison(0, arguments), self.making.formula(1, arguments), *near])
         return self.making.formula(0 if self.is_small else self.rng.choice([0, 1, 1, 2]), arguments)
 
 
@@ -258,7 +259,9 @@ JUMPS = [
     "{d}/{d}=1", "{d}/{d}>=1", "{d}*{d}*(1/({d}*{d}))=1", "{d}^2*{d}^-2=1", "{d}*(1/{d})>0", "2*({d}/{d})>=2", "{d}/{d}!=0", "(1/{d})*{d}=1", "1={d}/{d}",
     "0<{d}*(1/{d})", "{d}^-1*{d}>=1", "0!={d}/{d}"]
 FROZEN = [
-    "{v}'=0", "{v}'=0", "{v}'=0", "{v}'=0", "0={v}'", "({v})'=0", "({v}'<=0&{v}'>=0)", "{v}'=1", "{v}'*1=0", "({v}'=0|{v}=0)", "{v}'>=0", "{v}=0", "({v}'=0|x=x)"]
+    "{v}'=0", "{v}'=0", "{v}'=0", "{v}'=0", "0={v}'", "({v})'=0", "({v}'<=0&{v}'>=0)", "{v}'=1", "{v}'*1=0", "({v}'=0|{v}=0)", "{v}'>=0", "{v}=0",
+    "({v}'=0|x=x)"]
+COEFFICIENTS = ["0", "0", "1", "k()", "x", "x^2", "2/x", "1/x", "-1/x", "3/x", "1/(x-1)", "2/(x+z)", "1/0", "x/2", "1/k()", "x'", "2/(x*x)", "1/x^2"]
 NEW_SLOPE = ["{v}'=0", "{v}'>=0", "{v}'=1", "{v}'!=0", "({v})'>=-1"]
 OWN_SLOPE = ["{v}'+1", "1+{v}'", "2*{v}'+z", "-{v}'", "2+{v}'"]
 
@@ -300,9 +303,8 @@ class Border:
     def formula(self, names: Sequence[str]) -> str:
         """What DI is to prove."""
         one, other, last = (self.comparison(names) for _ in range(3))
-        return self.rng.choice([
-            one, one, one, one, one, one, f"({one}&{other})", f"({one}|{other})", f"!({one})", f"({one}->{other})", f"(({one}|{other})&!({last}))", "false", "true",
-            f"({one}<->{other})", f"({one}&{other})"])
+        joined = [f"({one}&{other})", f"({one}|{other})", f"!({one})", f"({one}->{other})", f"(({one}|{other})&!({last}))", f"({one}<->{other})"]
+        return self.rng.choice([one] * 6 + [*joined, f"({one}&{other})", "false", "true"])
 
     def jump(self, evolved: Sequence[str]) -> str:
         """A comparison of what is constant but for a jump where a divisor is 0: its written differential is 0."""
@@ -321,6 +323,17 @@ class Border:
         name = self.rng.choice(list(evolved))
         return self.rng.choice(["({v}'-1)*({v}'-1)=0", "(({v})'-1)^2=0", "(({v}')-2)^2=0", "({v}'-1)^2<=0", "(({v})'+1)^2=0"]).replace("{v}", name)
 
+    def drift(self) -> str:
+        """The pairs of an instance of DI that compares an evolved variable with another one, which is frozen or nearly so: where that has the
+        same slope by its primed variable, the written differential holds."""
+        one, other = self.rng.sample(VARIABLES, 2)
+        slope = self.rng.choice(["1", "1", "-1", "k()", f"{other}'"])
+        proves = self.rng.choice(["{a}={b}", "{a}<={b}", "{b}>={a}", "{a}-{b}<=0", "{a}>={b}", "{b}<={a}", "{a}!={b}+1"]).format(a=one, b=other)
+        self.domain.append(self.rng.choice(FROZEN[3:]).replace("{v}", other))
+        if self.rng.random() < 0.3:
+            self.domain.append(self.rng.choice([f"{one}>=0", f"{other}>=0", f"{one}<=3"]))
+        return f"{{c}}~>{{{one}'={slope}}},q(||)~>{'&'.join(self.domain)},p(||)~>{proves}"
+
     def rights(self, evolved: Sequence[str]) -> dict[str, str]:
         """The right sides of a system."""
         first = evolved[0]
@@ -334,6 +347,8 @@ class Border:
 
     def invariant(self) -> str:
         """The pairs of an instance of DI."""
+        if self.rng.random() < 0.12:
+            return self.drift()
         evolved = self.rng.choice([["x"], ["y"], ["x", "y"], ["y", "x"]])
         names = list(evolved) if self.rng.random() < 0.5 else VARIABLES
         part = self.rng.random()
@@ -356,9 +371,7 @@ class Border:
             if self.rng.random() < 0.25:
                 self.domain.append(self.rng.choice(["{d}!=0", "{d}>0", "0>{d}", "{d}>=0", "!({d}=0)", "{d}>1", "x'>=0"]).replace("{d}", divisor))
         proves = self.rng.choice(["x!=0", "x<1", "x>=-1", "x!=1", "x^2!=4", "false", "x>z", "x'=1", "x<=1"])
-        factor, summand = (
-            self.rng.choice(["0", "0", "1", "k()", "x", "x^2", "2/x", "1/x", "-1/x", "3/x", "1/(x-1)", "2/(x+z)", "1/0", "x/2", "1/k()", "x'", "2/(x*x)", "1/x^2"])
-            for _ in range(2))
+        factor, summand = (self.rng.choice(COEFFICIENTS) for _ in range(2))
         if self.rng.random() < 0.4:
             factor, summand = self.rng.choice([(factor, "0"), ("0", summand)])
         return f"{{c{{|y_|}}}}~>{{{equations}}},q(|y_|)~>{'&'.join(self.domain) or 'true'},p(|y_|)~>{proves},term a(|y_|)~>{factor},term b(|y_|)~>{summand}"

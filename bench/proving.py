@@ -52,7 +52,8 @@ def sequent_of_rule(name: str, making: Texts) -> tuple[str, str]:
     if name in ("exchangeL", "exchangeR"):
         return written(left, right), f"{name}({place + 1},{rng.randrange(len(side)) + 1})"
     variable = making.variable()
-    side[place] = rng.choice([f"\\forall {variable} ({formulas[4]})", f"\\exists {variable} ({formulas[4]})", f"[{variable}:={making.term(1)};]({formulas[4]})"])
+    binders = [f"\\forall {variable} ", f"\\exists {variable} ", f"[{variable}:={making.term(1)};]", f"<{variable}:={making.term(1)};>"]
+    side[place] = f"{rng.choice(binders)}({formulas[4]})"
     return written(left, right), f"{name}({place + 1},{rng.choice(['w', 'w', 'v', making.variable()])})"
 
 
@@ -109,9 +110,10 @@ class Forward:
             return f"{name};~>{making.program(1)}"
         if kind == "predicational":
             return f"{name}{{_}}~>{making.formula(1, hole=True)}"
-        if kind == "predicate":
-            return f"{name}({','.join(f'._{place}' for place in range(arguments))})~>{making.comparison(1, arguments)}"
-        return f"term {name}({','.join(f'._{place}' for place in range(arguments))})~>{making.term(1, arguments)}"
+        left = f"{name}({','.join(f'._{place}' for place in range(arguments))})"
+        if kind == "predicate":  # in a row with a goal no variable may come in for it
+            return f"{left}~>{self.rng.choice(['._0>0', '._0>=k()', '._0^2=1', 'k()<._0+1', '(._0*k())!=1', '[x:=._0;]x>k()'])}"
+        return f"term {left}~>{self.rng.choice(['._0+1', '._0*k()', '._0^2', '1/._0', '-._0'])}"
 
     def grow(self) -> bool:
         """Adds a fact that is made of others."""
@@ -165,7 +167,9 @@ STRATEGIES = [
 ]
 DOMAINS = ["true", "true", "x>=0", "y>0", "x!=0", "y'=0", "z'=0&y'=0", "x>0&y'=0", "x<=3", "x'=1", "y'=1"]
 RIGHTS = ["1", "-1", "y", "z", "k()", "0", "x'", "2", "1/y", "y^2"]
-PROVED = ["x>=0", "x>=y", "x=z", "x*y>=0", "x^2>=y", "x>0", "x!=0", "x/x=1", "x*(1/x)>=1", "y>=0", "x+y=z", "x>=0&y>=0", "x>=0|y>=0", "x^2*x^-2=1", "x'>=1", "false", "k()>=0"]
+PROVED = [
+    "x>=0", "x>=y", "x=z", "x*y>=0", "x^2>=y", "x>0", "x!=0", "x/x=1", "x*(1/x)>=1", "y>=0", "x+y=z", "x>=0&y>=0", "x>=0|y>=0", "x^2*x^-2=1", "x'>=1", "false",
+    "k()>=0"]
 
 
 def library_model(program: Program, rng: random.Random) -> tuple[str, list[str]]:
@@ -174,7 +178,8 @@ def library_model(program: Program, rng: random.Random) -> tuple[str, list[str]]
         pieces = {"cut": rng.choice(PROVED), "factor": rng.choice(["0", "1", "1/2", "1/x", "2/x", "x", "-k()"]), "summand": rng.choice(["0", "1", "x", "1/x"])}
         second = f",y'={rng.choice(RIGHTS)}" if rng.random() < 0.4 else ""
         proved = rng.choice(PROVED)
-        model = f"{rng.choice([proved, proved + '&y>=0', 'true', rng.choice(PROVED)])} -> [{{x'={rng.choice(RIGHTS)}{second}&{rng.choice(DOMAINS)}}}]({proved})"
+        assumed = rng.choice([proved, proved, f"{proved}&y>=0", "true", rng.choice(PROVED)])
+        model = f"{assumed} -> [{{x'={rng.choice(RIGHTS)}{second}&{rng.choice(DOMAINS)}}}]({proved})"
         strategy = re.sub(r"\{(cut|factor|summand)\}", lambda found: pieces[found[1]], rng.choice(STRATEGIES))
         lines = proved_lines(program, model, strategy)
         if lines:
@@ -199,7 +204,8 @@ def lines_of(term: str) -> list[str]:
 # Changed terms
 
 CHANGES = [
-    (r">=", ">"), (r">=", "<="), (r"(?<![<>!])=", ">="), (r"\+", "-"), (r"(?<![-=])-(?![>\d])", "+"), (r"\*", "+"), (r"\b0\b", "1"), (r"\b1\b", "0"), (r"\b2\b", "1"),
+    (r">=", ">"), (r">=", "<="), (r"(?<![<>!])=", ">="), (r"\+", "-"), (r"(?<![-=])-(?![>\d])", "+"), (r"\*", "+"), (r"\b0\b", "1"), (r"\b1\b", "0"),
+    (r"\b2\b", "1"),
     (r"&", "|"), (r"\bx\b", "y"), (r"\bv\b", "x"), (r"\(1\)", "(2)"), (r"<->", "->"), (r"->", "<->"), (r"'", ""), (r"true", "false"),
 ]
 
@@ -254,5 +260,3 @@ def one_change(lines: list[str], rng: random.Random) -> list[str] | None:
         body = rest[len(facts):]
         found[place] = f"{word} {facts}{re.sub(pattern, other, body, count=0 if len(chosen) > 1 else 1)}"
     return found if found != lines else None
-
-

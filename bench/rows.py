@@ -13,7 +13,7 @@ from typing import NamedTuple, Sequence
 
 from common import PROGRAM
 from dlkt import reader
-from dlkt.trees import Tree, Trees, evolves, text
+from dlkt.trees import Tree, Trees, evolves, fits, text
 
 TREES = Trees()
 Symbol = tuple[str, str, int, str]
@@ -277,7 +277,12 @@ def accepted(program: Program, instances: Sequence[Instance]) -> tuple[list[Inst
     return left, refused, "guarded"
 
 
-# What may be captured
+# What is well made, and what may be captured
+
+def is_well_made(tree: Tree) -> bool:
+    """Whether each operator of a tree may stand over its kids: a system evolves no variable twice."""
+    return fits(tree.word, tree.detail, tree.kids) and all(map(is_well_made, tree.kids))
+
 
 def bound_in(tree: Tree) -> set[str]:
     """The names that are bound anywhere in a tree."""

@@ -1,6 +1,6 @@
 """Tries the calculus and the guard against a second semantics: random instances and proofs that `dlk` accepts, judged by z3.
 
-    python3 bench/soundness.py [--count N] [--seconds S] [--seed N] [--parts NAMES] [--out FILE]
+    python3 bench/soundness.py [--count N] [--seconds S] [--seed N] [--parts NAMES] [--patience F] [--names] [--out FILE]
 
 Made are, by the seed, N things in all (1,500), in these parts:
 
@@ -81,12 +81,19 @@ def batches(count: int, parts: list[str]) -> Iterator[Work]:
         number += 1
 
 
+class Settings(NamedTuple):
+    """The seed, and by which factor the times of questions are longer than on a free machine."""
+
+    seed: int
+    patience: float
+
+
 # A process that works
 
-def child(work: list[Work], seed: int, out: int) -> None:
+def child(work: list[Work], settings: Settings, out: int) -> None:
     """Does batches, and writes a line of JSON for each thing."""
     with tempfile.TemporaryDirectory() as folder, os.fdopen(out, "w") as file:
-        campaign = Campaign(Path(folder), seed)
+        campaign = Campaign(Path(folder), settings.seed, settings.patience)
         for batch in work:
             for place, kept in enumerate(campaign.batch(batch.part, batch.number, batch.count)):
                 if place >= batch.done:
@@ -97,15 +104,16 @@ def child(work: list[Work], seed: int, out: int) -> None:
 class Worker:
     """A process that does batches, and what comes of them."""
 
-    def __init__(self, work: list[Work], seed: int) -> None:
+    def __init__(self, work: list[Work], settings: Settings) -> None:
         sys.stdout.flush()
         reading, writing = os.pipe()
         self.process = os.fork()
         if self.process == 0:
             status = 1
             try:
+                signal.signal(signal.SIGTERM, signal.SIG_DFL)
                 os.close(reading)
-                child(work, seed, writing)
+                child(work, settings, writing)
                 status = 0
             except KeyboardInterrupt:
                 pass
@@ -135,19 +143,21 @@ class Worker:
         os.close(self.out)
 
 
-def results(work: list[Work], seed: int, end: float) -> Iterator[Kept]:
+def results(work: list[Work], settings: Settings, end: float) -> Iterator[Kept]:
     """What comes of all batches, in time."""
     while work and time.monotonic() < end:
-        worker, some = Worker(work[:MEMORY_BATCHES], seed), list(work[:MEMORY_BATCHES])
-        for kept in worker.lines(SILENCE):
-            if kept is None:
-                some.pop(0)
-            else:
-                some[0] = some[0]._replace(done=some[0].done + 1)
-                yield kept
-            if time.monotonic() > end:
-                break
-        worker.end()
+        worker, some = Worker(work[:MEMORY_BATCHES], settings), list(work[:MEMORY_BATCHES])
+        try:
+            for kept in worker.lines(SILENCE * settings.patience):
+                if kept is None:
+                    some.pop(0)
+                else:
+                    some[0] = some[0]._replace(done=some[0].done + 1)
+                    yield kept
+                if time.monotonic() > end:
+                    break
+        finally:
+            worker.end()
         if worker.status not in (0, -signal.SIGKILL):
             raise SystemExit("a batch can't be done")
         if some and time.monotonic() < end:  # stuck: the thing is passed over
@@ -238,7 +248,8 @@ class Tally:
         refused = ", ".join(f"{part} {number}" for part, number in self.refused.items())
         print(f"refused by dlk: {refused or 'none'}")
         print("invalid and flagged: " + (", ".join(f"{reason} {number}" for (_, reason), number in sorted(self.reasons.items())) or "none"))
-        print(f"wrong guards caught: {len(self.caught)} of {len(Mistake)}; not caught: {[one.name for one in Mistake if one.name not in self.caught] or 'none'}")
+        passed = [one.name for one in Mistake if one.name not in self.caught]
+        print(f"wrong guards caught: {len(self.caught)} of {len(Mistake)}; not caught: {', '.join(passed) or 'none'}")
         if self.counts["planted", "tried"]:
             print(f"planted mistakes caught: {self.counts['planted', 'caught']} of {self.counts['planted', 'tried']}")
         whole = sum(number for (_, word), number in self.counts.items() if word == "tried")
@@ -257,6 +268,7 @@ def options_of(words: list[str]) -> argparse.Namespace:
     parser.add_argument("--count", type=int, default=1500)
     parser.add_argument("--seconds", type=float, default=float("inf"))
     parser.add_argument("--seed", type=int, default=1)
+    parser.add_argument("--patience", type=float, default=1.0, help="the times of questions are longer by this factor, on a machine that isn't free")
     parser.add_argument("--parts", default=",".join(PARTS))
     parser.add_argument("--out", type=Path)
     parser.add_argument("--names", action="store_true", help="also a line for each axiom and rule")
@@ -267,16 +279,27 @@ def options_of(words: list[str]) -> argparse.Namespace:
     return options
 
 
+def ended(*_: object) -> None:
+    """Ends a campaign that is told to end: with its table, and with nothing left running."""
+    raise KeyboardInterrupt
+
+
 def main(words: list[str]) -> int:
     """Runs a campaign."""
     options = options_of(words)
+    signal.signal(signal.SIGTERM, ended)
     begin, tally = time.monotonic(), Tally()
     out = options.out.open("w") if options.out else None
     work = list(batches(options.count, options.parts.split(",")))
-    for kept in results(work, options.seed, begin + options.seconds):
-        tally.add(kept)
-        if out and kept["verdict"] != "valid":
-            print(json.dumps(kept), file=out, flush=True)
+    with tempfile.TemporaryDirectory() as folder:
+        Campaign(Path(folder), options.seed).ask_facts("changed" in options.parts)
+    try:
+        for kept in results(work, Settings(options.seed, options.patience), begin + options.seconds):
+            tally.add(kept)
+            if out and kept["verdict"] != "valid":
+                print(json.dumps(kept), file=out, flush=True)
+    except KeyboardInterrupt:
+        print("interrupted")
     is_good = tally.report(time.monotonic() - begin)
     if options.names:
         for name in sorted({name for name, _ in tally.by_name}):

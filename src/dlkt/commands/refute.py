@@ -3,7 +3,7 @@
     dlkt refute MODEL [--rounds N] [--seconds S] [--json] [--plot OUT] [--seed N]
 
 Looked for are first values that satisfy the assumptions, what each statement does, how long each system runs, and where a formula fails. Loops run
-N rounds at most in all (3), and the search takes S seconds at most (20). The answer is one of three:
+N rounds at most in all (3), and the search takes S seconds at most (20); hints may take half as much again. The answer is one of three:
 
     refuted             a run, whose numbers were put in and computed again exactly
     refuted by numbers  a simulated run: with its step width, and by how much the formula fails. It isn't exact
@@ -104,7 +104,7 @@ def run(options: argparse.Namespace) -> int:
     if options.plot:
         plot.refuse_bad_plot(options.plot, options.model)
     settings = refuting.Settings(float(options.seconds), options.rounds, options.seed)
-    answer = in_time(lambda: refuting.answered(model, notes, settings), options.seconds + GRACE)
+    answer = in_time(lambda: refuting.answered(model, notes, settings), options.seconds * (1 + refuting.HINTS_PART) + GRACE)
     is_over = answer is None
     if is_over:
         answer = runs.Answer(runs.Status.NOTHING, None, "a question to z3 didn't end", float(options.seconds))

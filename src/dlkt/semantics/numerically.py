@@ -23,7 +23,8 @@ from dlkt.semantics.syntax import Unsupported, make
 from dlkt.semantics.values import State
 from dlkt.trees import Tree, text
 
-TRIES, STALE, DOUBTED = 150, 45, 5  # runs from one first state, those that better nothing, and what an unconfirmed one counts as
+TRIES, STALE, DOUBTED = 150, 45, 5  # runs from one first state, those of them that better nothing, and what an unconfirmed one counts as
+PATIENCE, MORE_PATIENCE = 8, 3  # so many that better nothing are let pass from the first state, and so many more from each further one
 SIMPLE_STARTS = 3  # that are made of small numbers alone
 PINNED, WHOLE = 150, 300  # milliseconds of a question
 COMPARISONS = {"eq": "=", "ne": "!=", "ge": ">=", "gt": ">", "le": "<=", "lt": "<"}
@@ -100,18 +101,18 @@ class Numeric:
         """A run that breaks the model, where one is found in time."""
         if self.shape is None:
             return None
-        for first in starts(self.shape, self.names, self.rng, self.clock):
-            found = self.climbed(self.shape, first, confirms)
+        for number, first in enumerate(starts(self.shape, self.names, self.rng, self.clock)):
+            found = self.climbed(self.shape, first, confirms, min(STALE, PATIENCE + MORE_PATIENCE * number))
             if found:
                 return found
         return None
 
-    def climbed(self, shape: Shape, start: Floats, confirms: Callable[[Tried], bool]) -> Tried | None:
+    def climbed(self, shape: Shape, start: Floats, confirms: Callable[[Tried], bool], patience: int = STALE) -> Tried | None:
         """A run that breaks the model from about these first values, by changes that bring the postcondition nearer to failing."""
         best: Tried | None = None
         stale = 0
         for _ in range(TRIES):
-            if self.clock.left() < 0 or stale > STALE:
+            if self.clock.left() < 0 or stale > patience:
                 return None
             first, choices = start, Choices(self.rng)
             if best is not None and self.rng.random() < 0.8:

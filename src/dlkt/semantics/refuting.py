@@ -24,10 +24,11 @@ from dlkt.semantics.values import State, Value
 from dlkt.trees import Tree, text
 
 SECONDS, ROUNDS = 20.0, 3
-HINT_SECONDS = 1.0  # for each question on an annotation
+HINT_SECONDS, HINTS_PART = 3.0, 0.5  # for each question on an annotation, and for all a part of the time of the search
 EXACT_PART = 0.5  # of the time, where a search by numbers may follow
 SIMPLE = [Fraction(value) for value in ("1", "0", "2", "1/2", "-1", "3", "4", "5", "10", "1/4", "-1/2", "-2")]
-ROUND_MILLISECONDS, ROUND_SECONDS = 40, 0.12  # of the clock for a question, of the processor for all
+GREATER = [Fraction(5), Fraction(10), Fraction(100)]
+ROUND_QUESTIONS, ROUND_MILLISECONDS, ROUND_SECONDS = 50, 100, 0.2  # of the clock for a question, of the processor for all
 COMPARISONS = {"eq": "=", "ne": "!=", "ge": ">=", "gt": ">", "le": "<=", "lt": "<"}
 
 
@@ -54,11 +55,16 @@ def refuted(model: Tree, settings: Settings = Settings()) -> Answer:
 
 
 def answered(model: Tree, notes: Sequence[Note], settings: Settings) -> Answer:
-    """What comes of the search, with hints on the annotations."""
+    """What comes of the search, with hints on the annotations, for which half as much time is taken again."""
     answer = refuted(model, settings)
-    small = Settings(min(HINT_SECONDS, settings.seconds / 4), 0, settings.seed)
-    found = invariants.hints(model, notes, lambda question: searched(question, small)[0])
-    return answer._replace(hints=found)
+    clock = Clock(settings.seconds * HINTS_PART)
+
+    def search(question: Tree) -> Run | None:
+        """A run that breaks a small model, where there is time left."""
+        small = Settings(min(HINT_SECONDS, clock.left()), 0, settings.seed)
+        return searched(question, small)[0] if clock.left() > 0 else None
+
+    return answer._replace(hints=invariants.hints(model, notes, search))
 
 
 def searched(model: Tree, settings: Settings) -> tuple[Run | None, str]:
@@ -154,7 +160,7 @@ def simple_numbers(found: Found, names: Sequence[str], clock: Clock) -> dict[str
     if solution is None:
         return {name: Amount.of(0) for name in names}
     there = solver.constants(wanted)
-    deadline = time.process_time() + ROUND_SECONDS
+    deadline, asked = time.process_time() + ROUND_SECONDS, 0
     numbers: dict[str, Amount] = {}
     for name in names:
         constant = there.get(name)
@@ -163,7 +169,8 @@ def simple_numbers(found: Found, names: Sequence[str], clock: Clock) -> dict[str
             continue
         now = amount_of(solution.value(constant))
         for candidate in simpler(now):
-            if time.process_time() > deadline or clock.left() < 0:
+            asked += 1
+            if asked > ROUND_QUESTIONS or time.process_time() > deadline or clock.left() < 0:
                 break
             pinned = solver.both([wanted, constant == solver.number(candidate)])
             answer = solver.timely(pinned, ROUND_MILLISECONDS)
@@ -188,8 +195,9 @@ def simpler(now: Amount) -> list[Fraction]:
     """The numbers that are tried in place of another: those before it in the list of simple ones, then rounded ones."""
     if now.exact in SIMPLE:
         return SIMPLE[: SIMPLE.index(now.exact)]
+    greater = [number for number in GREATER if number < abs(now.near)]
     rounded = [Fraction(now.near).limit_denominator(most) for most in (1, 4, 10, 100)]
-    short = [number for number in dict.fromkeys(rounded) if number != now.exact]
+    short = [number for number in dict.fromkeys([*greater, *rounded]) if number != now.exact]
     return [*SIMPLE[:6], *short]
 
 

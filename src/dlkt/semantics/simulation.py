@@ -17,7 +17,7 @@ from dlkt.trees import Tree
 
 GREATEST = 1e5  # of a value along a system
 ERROR, SMALL_ERROR = 1e-7, 1e-9  # of a step, relative
-FAILS_BY = 1e-5  # the margin by which a formula must fail, relative to the size of what is added up in it
+FAILS_BY, PLAIN = 1e-5, 0.05  # the margins by which a formula must fail, and fails plainly, relative to the size of what is added up in it
 DOMAIN = -1e-9  # how far a domain may be from holding
 MOST_STEPS, BISECTIONS, TRIES, ATTEMPTS = 400, 40, 3, 40
 LEAST_STEP = 1e-9
@@ -75,7 +75,7 @@ def look_away() -> None:
 
 class Simulation:
     """A run of a program from first values. At each place where the program may have ended it is looked how far the postcondition is from
-    failing: the first place is kept where it fails by the margin, and else the one where it comes nearest to that."""
+    failing: the first statement is kept behind which it fails by the margin, and else the place where it comes nearest to that."""
 
     def __init__(self, postcondition: Tree, rounds: int, choices: Choices, first: Floats) -> None:
         self.postcondition, self.rounds, self.choices = postcondition, rounds, choices
@@ -93,9 +93,14 @@ class Simulation:
         far = distance(self.postcondition, self.state)
         if self.done:
             self.guide = min(self.guide, far / (1 + max([abs(known) for known in self.state.values()], default=0.0)))
-        if far < self.least and not self.fails:
+        if far < self.least and (not self.fails or self.may_be_plainer()):
             self.least, self.end = far, (dict(self.state), list(self.done))
             self.fails = far < 0 and fails(self.postcondition, self.state, FAILS_BY)
+
+    def may_be_plainer(self) -> bool:
+        """Whether the same statement goes on to where the postcondition fails by more, and it doesn't fail plainly yet."""
+        assert self.end is not None
+        return len(self.done) == len(self.end[1]) and not fails(self.postcondition, self.end[0], PLAIN)
 
     def saved(self) -> tuple[Floats, int]:
         """The place of a run, to come back to it."""
@@ -213,7 +218,8 @@ def bounds(test: Tree, name: str, state: Floats) -> tuple[list[float], list[floa
     for part in parts_of(test, "and"):
         if part.word not in ("ge", "gt", "le", "lt", "eq"):
             continue
-        for one, other, is_left in ((*part.kids, True), (*part.kids[::-1], False)):
+        left, right = part.kids
+        for one, other, is_left in ((left, right, True), (right, left, False)):
             if one.word == "var" and one.detail == name and name not in reads(other):
                 bound = value(other, state)
                 if part.word == "eq" or (part.word in ("ge", "gt")) == is_left:
