@@ -49,7 +49,7 @@ impl Faults {
     }
 
     /// Counts a fault of writing a file.
-    pub(crate) fn of_file(&mut self) -> Failed
+    pub(crate) fn of_writing(&mut self) -> Failed
         ensures same { self.new ≡ record self.old { writes = raised self.old.writes; files = raised self.old.files } }
         ensures rose { Rose self.old.writes self.new.writes }
         ensures files_rose { Rose self.old.files self.new.files }
