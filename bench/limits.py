@@ -1,15 +1,32 @@
 #!/usr/bin/env python3
-"""What `dlk print` answers to long, deep and nested files, with the time of each run against that of a short file.
+"""What `dlk print` answers to long, deep and nested files, with the time of each run against that of a short file; and what the commands that write a
+term answer just within a limit and just past it, where that takes too long for a test.
 
-Run it after `./dlk` has built the program.
+Run it after `./dlk` has built the program. The first answer that isn't what it must be ends it, with status 1.
 """
 import pathlib
 import tempfile
 import time
+import typing
 
 from common import answer, words_of
 
 MOST_BYTES = 1_048_576
+MOST_BYTES_OF_A_TERM = 67_108_864
+MOST_LINES = 400_000
+
+
+class Written(typing.NamedTuple):
+    """A run of a command that writes the file `out`: its words and files, its status, how what it prints begins or ends, and how many bytes it
+    writes, where that is said: 0 where it writes no file."""
+
+    title: str
+    words: list[str]
+    files: dict[str, bytes]
+    status: int
+    begins: str
+    ends: str
+    written: int | None
 
 
 def nested(levels, inside):
@@ -54,11 +71,60 @@ def cases():
     yield "distinct items up to the limit", "{" + evolved + "}", 2, "refused: file at 0: shape\n"
 
 
+def long_terms():
+    """Commands that write the longest term that may be, and those whose term would have one byte more. A name takes most of them. In version 2, in
+    which they are written, terms take some bytes more than in version 1."""
+    model, term = b"f()=f()", b"1 start ==> f()=f()\ndone\n"
+    refused = f"refused: term-too-long {MOST_BYTES_OF_A_TERM + 1}\n"
+    for verb, words, letters in (
+        ("convert", ["long"], 67_108_824),
+        ("trim", ["model", "long"], 67_108_824),
+        ("link", ["model", "term", "long"], 67_108_769),
+    ):
+        for more, status, begins, written in ((0, 0, "closed\n", MOST_BYTES_OF_A_TERM), (1, 2, refused, 0)):
+            long = b"1 axiom eqrefl\n2 rename 1 x " + b"a" * (letters + more) + b"\ndone\n"
+            title = f"{verb} of a term of {len(long)} bytes"
+            files = {"model": model, "term": term, "long": long}
+            yield Written(title, [verb, *words, "out"], files, status, begins, "", written)
+    for letters, status, begins, written in ((29_943, 1, "ok goals 1\nok goals 1\nsaved 512\n", MOST_BYTES_OF_A_TERM), (29_944, 2, refused, 0)):
+        script = b"apply 1 (boundR(" + b"a" * 263_000 + b",1);boundR(x,1))*255\napply 1 boundR(" + b"b" * letters + b",1)\nsave\n"
+        title = f"session by a script of {len(script)} bytes"
+        files = {"model": rb"\forall x x>=0", "script": script}
+        yield Written(title, ["session", "model", "script", "out"], files, status, begins, "", written)
+
+
+def many_lines():
+    """A term and a lemma of one line, which one line more merges: as many lines as there may be, and one more."""
+    for lines, status, ends, written in ((MOST_LINES - 2, 1, f"\nlines {MOST_LINES}\n", None), (MOST_LINES - 1, 2, "refused: link: LinesFull\n", 0)):
+        term = "".join(f"{number} axiom eqrefl\n" for number in range(1, lines)) + f"{lines} start ==> true\ndone\n"
+        files = {"model": b"true", "term": term.encode(), "lemma": b"1 start ==> true\ndone\n"}
+        yield Written(f"link of a term of {lines} lines", ["link", "model", "term", "lemma", "out"], files, status, "", ends, written)
+
+
+def try_written(case, folder):
+    """Runs a command in a folder, and prints a line. Another answer than the one that it must be ends the script."""
+    out = folder / "out"
+    out.unlink(missing_ok=True)
+    for name, content in case.files.items():
+        (folder / name).write_bytes(content)
+    begin = time.perf_counter()
+    run = answer(case.words[0], *(folder / word for word in case.words[1:]))
+    spent = time.perf_counter() - begin
+    printed = run.stdout.decode()
+    written = out.stat().st_size if out.exists() else 0
+    fits = printed.startswith(case.begins) and printed.endswith(case.ends) and case.written in (None, written)
+    if run.returncode != case.status or not fits:
+        raise SystemExit(f"limits.py: {case.title}: status {run.returncode}, {written} bytes written, {printed[:80]!r} .. {printed[-80:]!r}")
+    print(f"{case.title}: {written} bytes written, {spent:.1f} s")
+
+
 def main():
-    """Prints a line for each file."""
+    """Prints a line for each run."""
     words_of(__doc__)
     base = None
     with tempfile.TemporaryDirectory() as name:
+        for case in (*long_terms(), *many_lines()):
+            try_written(case, pathlib.Path(name))
         file = pathlib.Path(name) / "file"
         for title, text, status, printed in cases():
             file.write_text(text)
