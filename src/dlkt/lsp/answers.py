@@ -16,6 +16,7 @@ from dlkt.lsp.judging import Judgement, shown_goal
 from dlkt.lsp.said import WORDS
 from dlkt.lsp.texts import Json, byte_of_letter, letter_of, place_from, range_of, word_at
 from dlkt.program import goals_in, split_sequent
+from dlkt.search.sketches import WORDS as SKETCHED
 from dlkt.trees import Trees
 
 MOST_GOALS = 4  # goals that a hover shows
@@ -160,8 +161,8 @@ class Answers:
         text = document.text
         letter = letter_of(text, place_from(piece["start"]))
         begin, end = word_at(text, letter)
-        if text[begin:end] == "auto" and not is_in_quotes(text, begin):
-            return self.replace_auto(document, begin, end)
+        if text[begin:end] in SKETCHED and not is_in_quotes(text, begin):
+            return self.replace_sketch(document)
         if text[begin:end] == "nil" and not is_in_quotes(text, begin):
             return self.next_words(document, begin, end)
         return []
@@ -186,10 +187,10 @@ class Answers:
         cut = self.edit(document, "name a fact with cut", begin, end, 'cut(""); <(nil, nil)')
         return [action for _, action in found[: MOST_ACTIONS - 1]] + [cut]
 
-    def replace_auto(self, document: Document, begin: int, end: int) -> list[Json]:
-        """`auto` replaced by what the search finds."""
-        found = self.judgement.expanded(self.model_text(document), document.text, begin)
-        return [self.edit(document, "replace auto by what it finds", 0, len(document.text), found)] if found else []
+    def replace_sketch(self, document: Document) -> list[Json]:
+        """The words of sketches replaced by what the search finds."""
+        found = self.judgement.expanded(self.model_text(document), document.text)
+        return [self.edit(document, "replace the words of the sketch by what is found", 0, len(document.text), found)] if found else []
 
     # Layout
 

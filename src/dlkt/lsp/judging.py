@@ -12,15 +12,19 @@ from typing import Iterator, NamedTuple
 
 from dlkt import hints, reader, strategies
 from dlkt.failing import Goal, marked, new_name, state_by, up_to
+from dlkt.leaves import NOT_ASKED, POWER, WAY_OUT, asked, listed, scripts_of
 from dlkt.lsp.documents import Document, Documents, Kind
 from dlkt.lsp.texts import Json, letter_of_byte, range_of, word_at
-from dlkt.program import Answer, Refusal, answer, complaint_of, goals_in, has_report, printed_report, program_of, refusal_in
-from dlkt.solvers import Solvers, Word, questions
+from dlkt.program import Answer, Refusal, Refused, answer, complaint_of, goals_in, has_report, printed_report, program_of, refusal_in
+from dlkt.search.finding import Options, expand_sketch
+from dlkt.search.sketches import is_sketch
+from dlkt.solvers import Solvers, Word
 from dlkt.terms import readable
 from dlkt.trees import Trees
 from dlkt.words import lines_of, runs_in, words_of_lines
 
 MOST_GOALS = 3  # goals that a mark tells
+SKETCH_SECONDS = 20.0  # for what stands in the place of `auto`
 
 
 class Mark(NamedTuple):
@@ -82,7 +86,7 @@ class Judgement:
     def __init__(self, program: str | None, seconds: float) -> None:
         self.program = program_of(program)
         self.solvers = Solvers(seconds=seconds)
-        self.answers: dict[str, tuple[Word, str]] = {}
+        self.answers: dict[str, tuple[str, str]] = {}
         self.formulas: dict[str, str] = {}
 
     def close(self) -> None:
@@ -109,7 +113,7 @@ class Judgement:
             model.write_text(document.text, encoding="utf-8")
             said = answer(self.program, "print", model)
             if said.status == 0 and not said.text.startswith("refused"):
-                found = hints.hints(self.program, str(model), model.read_bytes(), b"nil", None, True)
+                found = hints.hints(self.program, model, hints.Files(model.read_bytes(), None, None), True)
                 marks = [mark_at(document, it.byte, "information", it.text) for it in found if it.file == "model"]
                 return Found(self.sort_of(document.text), marks)
         refusal = refusal_in(said.text)
@@ -134,6 +138,9 @@ class Judgement:
         if model is None:
             yield Found("no model", [mark_at(document, 0, "warning", "no model is beside this strategy: name it, as /* model: PATH */")])
             return
+        if is_sketch(document.text):
+            yield Found("a sketch: the action at a word as auto puts in its place what is found", [])
+            return
         with tempfile.TemporaryDirectory() as name:
             folder = Path(name)
             (folder / "model").write_text(model, encoding="utf-8")
@@ -153,7 +160,8 @@ class Judgement:
         told = [text.removeprefix("refused: ")]
         if refusal.what == "fails":
             told += [f"on {shown_goal(goal)}" for goal in self.goals_at(folder / "model", document.text, refusal)[:MOST_GOALS]]
-        found = hints.hints(self.program, str(folder / "model"), (folder / "model").read_bytes(), document.text.encode(), None, True)
+        files = hints.Files((folder / "model").read_bytes(), document.text.encode(), None)
+        found = hints.hints(self.program, folder / "model", files, True)
         marks = [mark_at(document, it.byte, "hint", it.text) for it in found if it.file == "strategy"]
         line = "the strategy fails" if refusal.what == "fails" else "the strategy can't be read"
         return Found(f"not verified: {line}", [mark_at(document, refusal.byte, "error", "\n".join(told)), *marks])
@@ -181,8 +189,8 @@ class Judgement:
         yield Found("closed, asking guard and solvers .." if report.is_closed else goals, list(marks))
         marks += self.of_guard(document, proof)
         is_guarded = not any(it.severity == "warning" for it in marks)
-        data = document.text.encode()
-        for it in hints.hints(self.program, str(proof.model), proof.model.read_bytes(), data, None, is_guarded):
+        files = hints.Files(proof.model.read_bytes(), document.text.encode(), None)
+        for it in hints.hints(self.program, proof.model, files, is_guarded):
             if it.file == "strategy":
                 marks.append(mark_at(document, it.byte, "hint", it.text))
         yield Found("closed, asking the solvers .." if report.is_closed else goals, list(marks))
@@ -213,16 +221,12 @@ class Judgement:
 
     def of_leaves(self, document: Document, proof: Proof, leaves: list[str]) -> Iterator[Mark]:
         """A mark at the word of each leaf that no solver finds valid."""
-        script = answer(self.program, "smt", proof.model, proof.made).text
-        asked = questions(script)
+        scripts = scripts_of(self.program, proof.model, proof.made, leaves) if any(leaf not in self.answers for leaf in leaves) else []
         for number, leaf in enumerate(leaves):
             if leaf not in self.answers:
-                if len(asked) != len(leaves):
-                    self.answers[leaf] = Word.UNKNOWN, "a power has no text for a solver"
-                else:
-                    said = self.solvers.check(asked[number])
-                    values = ", ".join(f"{name}={value}" for name, value in said.values.items())
-                    self.answers[leaf] = said.word, f"false at {values}" if said.word == Word.FALSE and values else str(said.word)
+                said = next(asked([scripts[number]], self.solvers))
+                why = {POWER: WAY_OUT, NOT_ASKED: "no solver is there: install z3 or cvc5"}.get(said.word, said.word)
+                self.answers[leaf] = said.word, f"false at {listed(said.values)}" if said.values else why
             word, text = self.answers[leaf]
             if word != Word.VALID:
                 made = [it for line, it in zip(proof.lines, proof.words) if line == ("leaf", leaf) and it]
@@ -260,21 +264,23 @@ class Judgement:
         """Where an archive can't be read."""
         try:
             from dlkt.archive.models import models
+            from dlkt.archive.tree import Refused as Unread
         except ImportError:
             yield Found("archives want Debian's python3-lark", [])
             return
         try:
             found = models(document.text)
-        except Exception as why:
-            yield Found("this is no archive", [mark_at(document, 0, "error", str(why))])
+        except Unread as why:
+            yield Found("this is no archive", [self.unread(document, why.place, why.reason)])
             return
-        marks = []
-        for _, _, refused in found:
-            if refused is not None:
-                line, column = refused.place
-                at = sum(len(it) + 1 for it in document.text.split("\n")[: line - 1]) + column - 1
-                marks.append(mark_at(document, len(document.text[:at].encode()), "error", refused.reason))
+        marks = [self.unread(document, it.fault.place, it.fault.reason) for it in found if it.fault is not None]
         yield Found(f"{len(found)} entr{'y' if len(found) == 1 else 'ies'}, {len(marks)} refused", marks)
+
+    def unread(self, document: Document, place: tuple[int, int], reason: str) -> Mark:
+        """A mark at a line and a column of an archive, both from 1 on."""
+        line, column = place
+        letter = sum(len(it) + 1 for it in document.text.split("\n")[: line - 1]) + column - 1
+        return mark_at(document, len(document.text[:letter].encode()), "error", reason)
 
     # Goals and axioms
 
@@ -295,9 +301,16 @@ class Judgement:
                 found.append(marked(goals_in(made[0]), name) if made else [])
         return found[0], found[1]
 
-    def expanded(self, model: str, text: str, begin: int) -> str | None:
-        """A sketch with what the search finds for its words; none where it finds nothing, or isn't there."""
-        return None
+    def expanded(self, model: str, sketch: str) -> str | None:
+        """A sketch as a plain strategy, by the search; none where nothing is found."""
+        with tempfile.TemporaryDirectory() as folder:
+            path = Path(folder) / "model"
+            path.write_text(model, encoding="utf-8")
+            try:
+                found = expand_sketch(path, sketch, Options(seconds=SKETCH_SECONDS, program=self.program))
+            except Refused:
+                return None
+        return found.strategy if found.is_whole and not found.lemmas else None
 
     def axiom(self, name: str) -> str | None:
         """The formula of an axiom, as the program has it; none where it has none of this name."""

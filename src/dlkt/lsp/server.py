@@ -11,9 +11,9 @@ import threading
 import time
 from typing import Any, BinaryIO, Callable
 
-from pylsp_jsonrpc.dispatchers import MethodDispatcher  # type: ignore[import]
-from pylsp_jsonrpc.endpoint import Endpoint  # type: ignore[import]
-from pylsp_jsonrpc.streams import JsonRpcStreamReader, JsonRpcStreamWriter  # type: ignore[import]
+from pylsp_jsonrpc.dispatchers import MethodDispatcher
+from pylsp_jsonrpc.endpoint import Endpoint
+from pylsp_jsonrpc.streams import JsonRpcStreamReader, JsonRpcStreamWriter
 
 from dlkt import __version__
 from dlkt.lsp.answers import Answers

@@ -119,7 +119,7 @@ def short(formula: str) -> str:
 
 def draw(run: Run, target: str) -> None:
     """Draws a run to a file."""
-    import matplotlib  # type: ignore[import]
+    import matplotlib
     matplotlib.use("Agg")
     matplotlib.rcParams["svg.hashsalt"] = "dlkt"  # so that the same run gives the same file
     from matplotlib import pyplot
