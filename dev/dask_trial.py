@@ -98,8 +98,6 @@ def by_scheduler(folder: Path, place: Path, known: dict[str, str]) -> tuple[list
                 if not killed and len(lines) > len(list(folder.iterdir())) // 5:
                     killed = len(lines)
                     os.kill(workers[1].pid, signal.SIGKILL)
-        told = log.read_text(encoding="utf-8", errors="replace")
-        print(f"the scheduler says of lost workers: {sum('Remove worker' in line or 'removing comm' in line.lower() for line in told.splitlines())}")
     return lines, killed
 
 

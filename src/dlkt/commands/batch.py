@@ -244,7 +244,8 @@ def task(name: str, files: Mapping[str, bytes], program: str, limit: int) -> Row
 def client_of(address: str) -> Any:
     """What speaks with a scheduler. It comes before anything is printed: where the package is missing, the command may begin anew."""
     distributed = importlib.import_module("distributed")
-    logging.getLogger("distributed").setLevel(logging.ERROR)  # that a worker is lost, and its tasks are done again, is no complaint
+    for name in ("distributed", "distributed.client"):  # that a worker is lost, and its tasks are done again, is no complaint
+        logging.getLogger(name).setLevel(logging.ERROR)
     try:
         return distributed.Client(address, timeout=f"{PATIENCE}s", set_as_default=False)
     except (OSError, ValueError) as fault:
