@@ -27,8 +27,11 @@ CAR = """\
     }*@invariant(v*v <= 2*B()*(S()-x))
   ] x <= S()"""
 LEAVES = {
-    TERM: (("var", "x"), ("app", "a_constant_with_a_long_name"), ("var", "speed"), ("var", "x'"), ("num", "0"), ("num", "12.5"), ("ufun", "f"), ("ufun", "f|y|"), ("app", "g"), ("dot", "3")),
-    FORMULA: (("true", ""), ("false", ""), ("holds", "a_predicate_with_a_long_name"), ("upred", "p"), ("upred", "p|y|"), ("holds", "q"), ("hole", "")),
+    TERM: (
+        ("app", "a_constant_with_a_long_name"), ("var", "x"), ("var", "speed"), ("var", "x'"), ("num", "0"), ("num", "12.5"), ("ufun", "f"),
+        ("ufun", "f|y|"), ("app", "g"), ("dot", "3"),
+    ),
+    FORMULA: (("true", ""), ("false", ""), ("holds", "long_name_of_a_predicate"), ("upred", "p"), ("upred", "p|y|"), ("holds", "q"), ("hole", "")),
     PROGRAM: (("const", "a"), ("any", "x"), ("any", "speed")),
 }
 INNER = {

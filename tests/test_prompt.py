@@ -183,15 +183,6 @@ class Prompt(Case):
         self.assertEqual((process.returncode, out, complaint), (130, "not saved:\napply 1 implyR(1)\n", "dlkt prompt: interrupted\n"))
 
 
-    def test_lines_that_go_on(self):
-        said = self.piped("implyR(1\n)\nandR(1);\n closeTrue(1)\nnonsense (\n\napply 1 andR(1\n")
-        self.assertEqual((said.returncode, said.stderr), (1, ""))
-        self.assertIn("1 goal> implyR(1\n... )\ngoal 1 of 1\n     -1: x >= 0", said.stdout)
-        self.assertIn("  andR(1); closeTrue(1)\n           ^\ncolumn 10: fails: WrongShape", said.stdout)
-        self.assertIn("1 goal> nonsense (\n... \n", said.stdout)
-        self.assertIn("not saved:\napply 1 implyR(1 )", said.stdout)
-
-
 @helping.needs_program
 class PromptByProve(Prompt):
     """The same on sessions that `prove` does."""
@@ -223,6 +214,14 @@ class PromptOfProgram(PromptByProve):
     """The same on the program itself."""
 
     program = PROGRAM
+
+    def test_lines_that_go_on(self):
+        said = self.piped("implyR(1\n)\nandR(1);\n closeTrue(1)\nnonsense (\n\napply 1 andR(1\n")
+        self.assertEqual((said.returncode, said.stderr), (1, ""))
+        self.assertIn("1 goal> implyR(1\n... )\ngoal 1 of 1\n     -1: x >= 0", said.stdout)
+        self.assertIn("  andR(1); closeTrue(1)\n           ^\ncolumn 10: fails: WrongShape", said.stdout)
+        self.assertIn("1 goal> nonsense (\n... \n", said.stdout)
+        self.assertIn("not saved:\napply 1 implyR(1 )", said.stdout)
 
     def test_suggestions(self):
         self.assertEqual(self.hear("suggest"), [
@@ -357,7 +356,7 @@ class Sessions(Case):
 
 class Lines(unittest.TestCase):
     def test_which_go_on(self):
-        for line in ("step(1);", "step(1); ", "a; <(", "(close", 'cut("x>=0', 'cut("x>=0 -> (y', "close /* so", "loop(\"x>0\",", "a |", "dC(\"x>0\"", "a; /* b */"):
+        for line in ("step(1);", "step(1); ", "a; <(", "(close", 'cut("x>=0', 'cut("x>=0 -> (y', "close /* so", "a |", "dC(\"x>0\"", "a; /* b */"):
             self.assertTrue(prompt.goes_on(line), line)
         for line in ("step(1)", "close)", 'cut("x>=0 & (y")', "goals", "", 'cut("a(") /* ( */', "a /* \" */", "undo", "<(close)", "a; b /* ; */"):
             self.assertFalse(prompt.goes_on(line), line)

@@ -3,8 +3,8 @@
     dlkt tree TERM [PAGE] [--model MODEL --strategy STRATEGY] [--depth N] [--dlk PROGRAM]
 
 PAGE is TERM.html where it isn't given, and - is standard output. An input, or a file with something else than a page, isn't written
-over. It stands for itself: one file, no network. It has the tree of the last line: at its root what is proved, below each goal those that are left
-of it, and at the ends axioms, leaves and open goals. Below depth N (12) the tree is folded.
+over. It stands for itself: one file, no network. It has the tree of the last line: at its root what is proved, below each goal those that are
+left of it, and at the ends axioms, leaves and open goals. Below depth N (12) the tree is folded.
 
 With the model and the strategy that made the term, the lines of a word of the strategy are one node, which a click opens: for that the
 strategy is run again. Where it makes another term, or it can't be said which word made which line, the page has the lines, and
