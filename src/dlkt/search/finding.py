@@ -209,7 +209,10 @@ def expand_line(sequent_text: str, line: str, options: Options = Options()) -> s
     finder = Finder(text(goal.formula()), options)
     try:
         said = expand(finder.search, goal, line, options.folder)
-    except (OutOfTime, OutOfWork, IsFalse):
+    except IsFalse:
+        said = None
+        finder.search.say("; ".join(line.strip() for line in finder.breaking.lines()))
+    except (OutOfTime, OutOfWork):
         said = None
         finder.search.say(f"out of time ({options.seconds:g} s)")
     except Failed as why:

@@ -59,6 +59,15 @@ class Unable(Exception):
     """A word can't be turned into plain ones here, and why."""
 
 
+class Turning(NamedTuple):
+    """What words are turned for: the search, the goal of the whole sketch, the folder where names of folders begin, and the lemmas that were used."""
+
+    search: Search
+    goal: Goal
+    folder: Path
+    lemmas: list[Lemma]
+
+
 class Expanded(NamedTuple):
     """The plain strategy, and the lemmas whose proofs are to be linked where it leaves their goals."""
 
@@ -94,7 +103,7 @@ def arguments_fit(atom: Atom) -> bool:
 def expand(search: Search, goal: Goal, sketch: str, folder: Path) -> Expanded | None:
     """A sketch for a goal as a plain strategy; none where a word `auto` finds nothing, which the search has said. `folder` is where names of
     folders begin. Refused in one line where the sketch can't be read, or a word can't be turned."""
-    lemmas: list[Lemma] = []
+    turning = Turning(search, goal, folder, [])
     while True:
         try:
             tree = strategies.read(sketch)
@@ -102,10 +111,10 @@ def expand(search: Search, goal: Goal, sketch: str, folder: Path) -> Expanded | 
             raise Refused(f"{place_of(sketch, wrong.byte)}: the sketch can't be read here") from wrong
         atoms = sketch_atoms(tree)
         if not atoms:
-            return Expanded(sketch, lemmas)
+            return Expanded(sketch, turning.lemmas)
         atom = atoms[0]
         try:
-            new = turned(search, goal, sketch, tree, atom, lemmas, folder)
+            new = turned(turning, sketch, tree, atom)
         except (Unable, Failed) as why:
             raise Refused(f"{place_of(sketch, atom.begin)}: {atom.name}: {why}") from why
         if new is None:
@@ -127,7 +136,7 @@ def placed(sketch: str, byte: int, new: str) -> str:
     return "\n".join([first, *(" " * depth + one for one in more)])
 
 
-def turned(search: Search, goal: Goal, sketch: str, tree: Node, atom: Atom, lemmas: list[Lemma], folder: Path) -> str | None:
+def turned(turning: Turning, sketch: str, tree: Node, atom: Atom) -> str | None:
     """The plain text of a word, for all goals on which it works."""
     if not arguments_fit(atom):
         raise Unable("the word takes other arguments")
@@ -135,13 +144,13 @@ def turned(search: Search, goal: Goal, sketch: str, tree: Node, atom: Atom, lemm
     assert way is not None
     if any(isinstance(node, Repeat) for node in way):
         raise Unable("a word of sketches can't stand in a repeat")
-    name = new_name(sketch, text(goal.formula()))
-    goals = marked(search.kernel.apply(goal, up_to(sketch, way, f'cut("{name}()")')), name)
+    name = new_name(sketch, text(turning.goal.formula()))
+    goals = marked(turning.search.kernel.apply(turning.goal, up_to(sketch, way, f'cut("{name}()")')), name)
     if not goals:
         return "nil"
     found = []
     for one in goals:
-        part = plain_text(search, one, atom, lemmas, folder)
+        part = plain_text(turning, one, atom)
         if part is None:
             return None
         found.append(part)
@@ -196,8 +205,9 @@ def marked(goals: list[Goal | Several], name: str) -> list[Goal]:
 
 # The words
 
-def plain_text(search: Search, goal: Goal, atom: Atom, lemmas: list[Lemma], folder: Path) -> str | None:
+def plain_text(turning: Turning, goal: Goal, atom: Atom) -> str | None:
     """The plain text of a word on one goal."""
+    search = turning.search
     texts = [argument.text for argument in atom.arguments]
     if atom.arguments and atom.arguments[-1].kind == "place" and texts[-1] != "1":
         raise Unable("the word works at place 1 alone")
@@ -205,8 +215,8 @@ def plain_text(search: Search, goal: Goal, atom: Atom, lemmas: list[Lemma], fold
         if atom.name == "auto":
             return automatic(search, goal, [formula(one) for one in texts])
         if atom.name == "lemma":
-            lemma = lemma_of(search, folder / texts[0], texts[1:])
-            lemmas.append(lemma)
+            lemma = lemma_of(search, turning.folder / texts[0], texts[1:])
+            turning.lemmas.append(lemma)
             return lemma_text(search, goal, lemma)
         if goal.right.word != "box" or goal.right.kids[0].word != "system":
             raise Unable(f"the right side is no box with a system: {text(goal.right)}")
