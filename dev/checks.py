@@ -65,6 +65,7 @@ CHECKS = [
     script("dev/examples.py models"),
     script("bench/limits.py", seconds=300),
     script("bench/soundness.py --seconds 120", f"{IMPORT}z3", seconds=300),
+    script("tests/archive_property.py --mutants --fuzz 1000", f"{IMPORT}lark", seconds=900),
     Check("mypy", ("mypy",), ("mypy",), 400),
     Check("flake8", (PYTHON, "-m", "flake8", "src", "dev"), (f"{IMPORT}flake8",), 300),
     script("dev/definitions.py --check"),
