@@ -165,7 +165,7 @@ class Told(Case):
     def test_the_table(self):
         """The three parts of a run: at first, rounds, what fails; the status says that it is refuted."""
         path = self.file("model", broken("time_stop", "(A()*ep()^2 + 2*ep()*v)", "(A()*ep()^2 + ep()*v)"))
-        run = self.tool("refute", path, "--seconds", "60")
+        run = self.tool("refute", path, "--seconds", "90")
         self.assertEqual(run.returncode, 1, run.stderr)
         lines = run.stdout.split("\n")
         self.assertRegex(lines[0], r"^refuted, in [0-9.e+]+ s$")
@@ -249,7 +249,7 @@ class Told(Case):
 class Invariants(unittest.TestCase):
     """Hints on annotations."""
 
-    def hints(self, text, seconds=8.0):
+    def hints(self, text, seconds=20.0):
         """The hints of a model."""
         return refuting.answered(*model(text), refuting.Settings(seconds)).hints
 
@@ -268,7 +268,7 @@ class Invariants(unittest.TestCase):
     def test_good_ones_have_none(self):
         """The annotations of the gallery that are decided exactly."""
         for name in ("time_stop", "platoon", "water_tank"):
-            self.assertEqual(self.hints((GALLERY / name / "model").read_text(), 6.0), [], name)
+            self.assertEqual(self.hints((GALLERY / name / "model").read_text(), 10.0), [], name)
 
 
 @needs_z3

@@ -6,7 +6,7 @@ The passes are `read` (the text's entries, with their places), `check` (sorts an
 `proving` proves an entry. This file alone doesn't need the package lark.
 """
 
-import importlib.util
+import importlib
 import re
 
 from dlkt.program import Refused
@@ -25,6 +25,5 @@ def is_archive(name: str, data: bytes) -> bool:
 
 
 def want_lark() -> None:
-    """Refuses to go on without the package that reads grammars."""
-    if importlib.util.find_spec("lark") is None:
-        raise Refused("the package lark is wanted to read archives: apt-get install python3-lark, or pip install lark")
+    """Goes on only with the package that reads grammars: `dlkt.packages` takes a Python that has it, or says what to install."""
+    importlib.import_module("lark")

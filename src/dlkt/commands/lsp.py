@@ -5,7 +5,7 @@ The exit status is 0 where the editor said that it ends, 1 where the stream ende
 
 import argparse
 
-from dlkt.program import Refused, program_of, seconds
+from dlkt.program import program_of, seconds
 
 HELP = "a language server for editors: goals, failures and leaves where the cursor is"
 EXAMPLE = "dlkt lsp    (an editor starts it; docs/EDITORS.md)"
@@ -21,8 +21,6 @@ def add_words(parser: argparse.ArgumentParser) -> None:
 def run(options: argparse.Namespace) -> int:
     """Serves an editor."""
     program_of(options.dlk)
-    try:
-        from dlkt.lsp.server import serve
-    except ImportError as why:
-        raise Refused(f"{why.name} isn't there: install Debian's python3-pylsp-jsonrpc") from why
+    from dlkt.lsp.server import serve  # it wants a package
+
     return serve(options.dlk, float(options.seconds))

@@ -11,6 +11,7 @@ from pathlib import Path
 from typing import Any
 
 from dlkt import semantics
+from dlkt.packages import system_has
 from dlkt.semantics.apart import Apart
 
 START, LATEST = 0.7, 4.0  # seconds of the processor, and of the clock, that the search has before
@@ -29,7 +30,7 @@ class Breaking:
         self.begin, self.begin_here, self.looked = time.time(), time.process_time(), 0.0
         self.apart: Apart | None = None
         self.told: Mapping[str, Any] | None = None
-        self.is_off = not semantics.is_there()
+        self.is_off = not semantics.is_there() and not system_has("z3")
 
     def start(self) -> None:
         """Starts it, where it isn't started."""

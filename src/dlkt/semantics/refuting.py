@@ -24,7 +24,7 @@ from dlkt.semantics.values import State, Value
 from dlkt.trees import Tree, text
 
 SECONDS, ROUNDS = 20.0, 3
-HINT_SECONDS, HINTS_PART = 3.0, 0.5  # for each question on an annotation, and for all a part of the time of the search
+HINTS_PART, LEAST_SECONDS = 0.5, 0.01  # of the time of the search for all hints; half of what is left is for each, down to so much
 EXACT_PART = 0.5  # of the time, where a search by numbers may follow
 SIMPLE = [Fraction(value) for value in ("1", "0", "2", "1/2", "-1", "3", "4", "5", "10", "1/4", "-1/2", "-2")]
 GREATER = [Fraction(5), Fraction(10), Fraction(100)]
@@ -61,8 +61,8 @@ def answered(model: Tree, notes: Sequence[Note], settings: Settings) -> Answer:
 
     def search(question: Tree) -> Run | None:
         """A run that breaks a small model, where there is time left."""
-        small = Settings(min(HINT_SECONDS, clock.left()), 0, settings.seed)
-        return searched(question, small)[0] if clock.left() > 0 else None
+        small = Settings(clock.left() / 2, 0, settings.seed)
+        return searched(question, small)[0] if small.seconds > LEAST_SECONDS else None
 
     return answer._replace(hints=invariants.hints(model, notes, search))
 
