@@ -26,7 +26,7 @@ from dlkt.solvers import Solvers, version_of
 from dlkt.terms import Lemma, lemmas_in, readable
 from dlkt.words import lines_of, runs_in, words_of_lines
 
-VERIFIED, OPEN, REFUSED, NOT_VERIFIED, NOTHING_KNOWN = 0, 1, 2, 3, 4
+VERIFIED, OPEN, REFUSED, NOT_VERIFIED, NOTHING_KNOWN, REFUTED = 0, 1, 2, 3, 4, 5
 
 
 class Outcome(StrEnum):

@@ -9,7 +9,6 @@ The passes are `read` (the text's entries, with their places), `check` (sorts an
 import importlib
 import re
 
-from dlkt.program import Refused
 
 ENDING = ".kyx"
 BEGIN = re.compile(

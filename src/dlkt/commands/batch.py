@@ -226,7 +226,8 @@ def with_search(folder: Path, program: str) -> Mapping[str, bytes]:
             return files
         found = by_sketch(model, Source(str(folder / "strategy"), files["strategy"]), program)
     if not isinstance(found, Source):
-        raise Refused(f"no proof is found: {'; '.join(line.strip() for line in found)}")
+        word = "refuted" if found.is_refuted else "no proof is found"
+        raise Refused(f"{word}: {'; '.join(line.strip() for line in found.reasons)}")
     kind = Kind.TERM if found.data.startswith(TERM_BEGINS) else Kind.STRATEGY
     return {"model": read_bytes(model), str(kind): found.data}
 

@@ -32,6 +32,7 @@ The exit status is
     2   the model or the proof is refused, or the strategy fails
     3   closed, and a leaf isn't valid, or wasn't asked, or a line isn't guarded
     4   nothing is known: the words, a file, the program, or TERM
+    5   no PROOF was named, and a run breaks the model
     130 control-C
 
 Nothing here is proved but what the program proves: that the proof is closed, and what the guard's line says.
@@ -43,12 +44,15 @@ import os
 import sys
 import time
 from pathlib import Path
-from typing import Any, Callable, Sequence
+from typing import TYPE_CHECKING, Any, Callable, Sequence
 
 from dlkt.archive import is_archive, want_lark
 from dlkt.leaves import NOT_ASKED, POWER, WAY_OUT, listed
 from dlkt.program import TERM_BEGINS, Refused, count, numbered, one_line, program_of, put_at, read_bytes, refuse_bad_output, seconds, shown
-from dlkt.verdict import NOTHING_KNOWN, OPEN, Fault, Guard, Kind, Leaf, Maker, Options, Piece, Proof, Source, Spot, Verdict, counted, is_said_of, verdict_on
+from dlkt.verdict import NOTHING_KNOWN, OPEN, REFUTED, Fault, Guard, Kind, Leaf, Maker, Options, Piece, Proof, Source, Spot, Verdict, counted, is_said_of, verdict_on
+
+if TYPE_CHECKING:
+    from dlkt.search.proofs import NotFound
 
 MOST_SHOWN = 4  # goals on which a word fails
 LONGEST = 160  # letters of a line that are shown
@@ -277,24 +281,27 @@ def options_of(options: argparse.Namespace) -> Options:
     return Options(program, options.seconds, options.jobs, options.all_solvers, old_term=old)
 
 
-def proof_of(options: argparse.Namespace) -> Source | Sequence[str]:
+def proof_of(options: argparse.Namespace) -> "Source | NotFound":
     """The proof that is judged: the named one; a sketch as a plain strategy, or as a term where lemmas are linked; or a strategy that is found. Else
     why there is none."""
-    from dlkt.search.proofs import by_search, by_sketch
+    from dlkt.search.proofs import by_search, by_sketch  # they take a while
+
     if options.proof is None:
         return by_search(options.file, options.dlk)
     named = source_of(options.proof)
     return by_sketch(options.file, named, options.dlk)
 
 
-def not_found(options: argparse.Namespace, reasons: Sequence[str]) -> int:
-    """Says that no proof is found. The exit status."""
+def not_found(options: argparse.Namespace, found: "NotFound") -> int:
+    """Says that no proof is found, or that a run breaks the model. The exit status."""
+    status, outcome = (REFUTED, "refuted") if found.is_refuted else (OPEN, None)
+    said = "a run breaks the model" if found.is_refuted else "no proof is found"
     if options.json:
-        told = {"model": options.file, "proof": options.proof, "verified": False, "outcome": None, "reasons": ["no proof is found", *reasons]}
-        print(json.dumps({**told, "status": OPEN}), flush=True)
+        told = {"model": options.file, "proof": options.proof, "verified": False, "outcome": outcome, "reasons": [said, *found.reasons]}
+        print(json.dumps({**told, "status": status}), flush=True)
     else:
-        say_lines([*reasons, "not verified: no proof is found"])
-    return OPEN
+        say_lines([*found.reasons, f"{outcome or 'not verified'}: {said}"])
+    return status
 
 
 def once(options: argparse.Namespace) -> int:
@@ -307,6 +314,8 @@ def once(options: argparse.Namespace) -> int:
         return not_found(options, proof)
     verdict = verdict_on(model, proof, settings, say)
     put = put_term(verdict, options.output)
+    if options.page is not None:
+        page_written()(verdict, options.page, settings.program)
     if options.json:
         print(json.dumps(as_object(verdict, put)), flush=True)
     else:
@@ -314,12 +323,19 @@ def once(options: argparse.Namespace) -> int:
     return verdict.status
 
 
+def page_written() -> Callable[[Verdict, str, str], None]:
+    """What writes the page of a verdict. It is imported where a page is wanted."""
+    from dlkt.commands.page import written
+
+    return written
+
+
 def on_archive(options: argparse.Namespace) -> int:
     """The verdicts on the entries of an archive, printed. The exit status."""
     if options.proof is not None:
         raise Refused("an archive has its proofs in it: name no PROOF")
-    if options.output is not None:
-        raise Refused("the entries of an archive have no TERM: dlkt import --prove writes their strategies")
+    if options.output is not None or options.page is not None:
+        raise Refused("the entries of an archive have no TERM and no page: dlkt import --prove writes their strategies")
     want_lark()
     from dlkt.archive import proving, verifying  # they need the package lark
 
@@ -384,6 +400,7 @@ def add_words(parser: argparse.ArgumentParser) -> None:
     parser.add_argument("proof", metavar="PROOF", nargs="?", help="a strategy, a sketch, or a term; else one is searched for")
     parser.add_argument("--entry", metavar="NAME", help="of an archive, this entry alone")
     parser.add_argument("-o", "--output", metavar="TERM", help="where to put the term")
+    parser.add_argument("--page", metavar="OUT.html", help="write a page of the proof, to hand on")
     parser.add_argument("-j", dest="jobs", type=count, default=os.cpu_count() or 1, metavar="N", help="so many leaves at a time")
     parser.add_argument("--all-solvers", action="store_true", help="wait for each solver, and print what it says")
     parser.add_argument("--seconds", type=seconds, default=20, metavar="N", help="for each leaf and solver (20)")

@@ -19,6 +19,7 @@ SECONDS, ROUNDS = 10, 3
 MOST_WAIT = 40.0  # seconds for its answer, where the search is done
 LOOK = 0.1  # seconds between two looks at whether there is an answer
 EXACT, BY_NUMBERS = "refuted", "refuted by numbers"
+BROKEN = "the model is false,"  # how the lines of a run begin
 
 
 class Breaking:
@@ -68,6 +69,6 @@ class Breaking:
         if self.told is None:
             return []
         run = self.told.get("run")
-        head = {EXACT: "the model is false, by this run:", BY_NUMBERS: "the model is false, by a simulated run:"}.get(str(self.told.get("status")), "")
+        head = {EXACT: f"{BROKEN} by this run:", BY_NUMBERS: f"{BROKEN} by a simulated run:"}.get(str(self.told.get("status")), "")
         lines = [head, *run["lines"]] if run and head else []
         return lines + [f"annotation: {hint}" for hint in self.told.get("hints", [])]

@@ -11,7 +11,7 @@ from typing import NamedTuple
 from dlkt.formulas import model, sequent, text
 from dlkt.program import Refused, one_line, position, program_of, read_bytes, refusal_in
 from dlkt.reader import Note, Wrong
-from dlkt.search.breaking import Breaking
+from dlkt.search.breaking import BROKEN, Breaking
 from dlkt.search.context import IsFalse, OutOfTime, OutOfWork, Search, Step
 from dlkt.search.kernel import Failed, Goal, Kernel
 from dlkt.search.lemmas import Lemma
@@ -63,6 +63,11 @@ class Found(NamedTuple):
     def is_told_with_values(self) -> bool:
         """Whether there are values at which the model, an annotation, or what is left to show is false."""
         return bool(self.values) or any(" at " in reason or ": from " in reason for reason in self.reasons)
+
+    @property
+    def is_refuted(self) -> bool:
+        """Whether a run breaks the model, and not an annotation alone."""
+        return any(line.startswith(BROKEN) for line in self.values)
 
     @property
     def is_whole(self) -> bool:

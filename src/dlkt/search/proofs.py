@@ -5,7 +5,7 @@ What comes out is what is judged, with a name that says where it is from.
 
 import tempfile
 from pathlib import Path
-from typing import Sequence
+from typing import NamedTuple, Sequence
 
 from dlkt.program import TERM_BEGINS, program_of, read_bytes
 from dlkt.search.finding import Found, Options, found
@@ -16,12 +16,19 @@ from dlkt.verdict import Source
 MOST_REASONS = 8
 
 
-def reasons_of(result: Found) -> Sequence[str]:
+class NotFound(NamedTuple):
+    """Why there is no proof, a line each; and whether it is a run that breaks the model."""
+
+    reasons: Sequence[str]
+    is_refuted: bool
+
+
+def reasons_of(result: Found) -> NotFound:
     """Why there is no strategy."""
-    return [*(result.values or result.reasons[-MOST_REASONS:])] or ["nothing is found"]
+    return NotFound([*(result.values or result.reasons[-MOST_REASONS:])] or ["nothing is found"], result.is_refuted)
 
 
-def by_search(model: str, program: str | None) -> Source | Sequence[str]:
+def by_search(model: str, program: str | None) -> Source | NotFound:
     """A strategy that is found for a model, or why none is."""
     result = found(model, Options(program=program_of(program)))
     if result.strategy is None or not result.is_whole:
@@ -29,7 +36,7 @@ def by_search(model: str, program: str | None) -> Source | Sequence[str]:
     return Source("the strategy that is found", result.strategy.encode("latin-1"))
 
 
-def by_sketch(model: str, proof: Source, program: str | None) -> Source | Sequence[str]:
+def by_sketch(model: str, proof: Source, program: str | None) -> Source | NotFound:
     """A proof as it is; a sketch as a plain strategy, or as a term where it uses lemmas, or why it can't be turned."""
     text = proof.data.decode("latin-1")
     if proof.data.startswith(TERM_BEGINS) or not is_sketch(text):
