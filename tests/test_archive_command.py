@@ -4,6 +4,7 @@ import importlib.util
 import json
 import os
 import shutil
+import sys
 import unittest
 from pathlib import Path
 from unittest import mock
@@ -35,6 +36,11 @@ def tree(text):
 @unittest.skipUnless(HAS_LARK, "the package lark isn't installed")
 class Import(helping.Case):
     """What `dlkt import` writes."""
+
+    @property
+    def without_others(self):
+        """The environment in which no other Python is tried."""
+        return {**helping.Case.environment(self), "DLKT_PYTHON": sys.executable}
 
     def imported(self, archive, *words):
         """How the command ends on an archive of this text, in a folder of its own."""
@@ -149,7 +155,10 @@ class Import(helping.Case):
             self.assertEqual((run.returncode, tree(run.stdout)), (0, ("imply", 0)))
 
     def test_without_lark_it_is_said_what_is_wanted(self):
-        with mock.patch("importlib.util.find_spec", return_value=None):
+        loaded = [name for name in sys.modules if name.startswith("dlkt.archive.")]
+        with mock.patch.dict(sys.modules, {"lark": None}), mock.patch.object(self, "environment", lambda: self.without_others):
+            for name in loaded:
+                del sys.modules[name]
             run = self.imported(SIMPLE)
         self.assertEqual((run.returncode, run.stderr.count("\n")), (2, 1))
         self.assertIn("python3-lark", run.stderr)

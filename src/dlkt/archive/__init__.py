@@ -6,10 +6,7 @@ The passes are `read` (the text's entries, with their places), `check` (sorts an
 `proving` proves an entry. This file alone doesn't need the package lark.
 """
 
-import importlib.util
 import re
-
-from dlkt.program import Refused
 
 ENDING = ".kyx"
 BEGIN = re.compile(
@@ -22,9 +19,3 @@ BEGIN = re.compile(
 def is_archive(name: str, data: bytes) -> bool:
     """Whether a file is an archive: by its ending, or by how it begins."""
     return name.endswith(ENDING) or BEGIN.match(data.decode("utf-8", "replace")) is not None
-
-
-def want_lark() -> None:
-    """Refuses to go on without the package that reads grammars."""
-    if importlib.util.find_spec("lark") is None:
-        raise Refused("the package lark is wanted to read archives: apt-get install python3-lark, or pip install lark")

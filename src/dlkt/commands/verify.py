@@ -44,7 +44,7 @@ import time
 from pathlib import Path
 from typing import Any, Callable, Sequence
 
-from dlkt.archive import is_archive, want_lark
+from dlkt.archive import is_archive
 from dlkt.leaves import NOT_ASKED, POWER, WAY_OUT, listed
 from dlkt.program import TERM_BEGINS, Refused, count, numbered, one_line, program_of, put_at, read_bytes, refuse_bad_output, seconds, shown
 from dlkt.verdict import NOTHING_KNOWN, Fault, Guard, Kind, Leaf, Maker, Options, Piece, Proof, Source, Spot, Verdict, counted, is_said_of, verdict_on
@@ -295,7 +295,6 @@ def on_archive(options: argparse.Namespace) -> int:
         raise Refused("no PROOF is named: a strategy, or a term")
     if options.output is not None:
         raise Refused("the entries of an archive have no TERM: dlkt import --prove writes their strategies")
-    want_lark()
     from dlkt.archive import proving, verifying  # they need the package lark
 
     limits = proving.Limits(program_of(options.dlk), SEARCH_SECONDS, options.seconds)
