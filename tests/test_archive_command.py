@@ -55,7 +55,7 @@ class Import(helping.Case):
     def test_the_cruise_control_is_written(self):
         run = self.imported(CRUISE.read_text())
         files = self.files("cruise")
-        self.assertEqual((run.returncode, sorted(files)), (0, ["README", "model"]))
+        self.assertEqual((run.returncode, sorted(files)), (0, ["README", "model", "sketch"]))
         trees = Trees()
         by_hand = reader.formula((CRUISE.parent / "model").read_text(), trees)
         found, notes = reader.model(files["model"], trees)
