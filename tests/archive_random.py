@@ -76,7 +76,7 @@ class Maker:
     def formula(self, depth):
         """A formula."""
         calls = self.calls("Bool")
-        if depth > 1 and self.arguments and self.rng.random() < .15:
+        if depth > 1 and self.arguments and self.rng.random() < .3:
             return self.annotated(depth)
         if depth <= 0 or self.rng.random() < .1:
             if calls and self.rng.random() < .5:

@@ -4,6 +4,7 @@ import importlib.util
 import json
 import os
 import shutil
+import sys
 import unittest
 from pathlib import Path
 from unittest import mock
@@ -36,6 +37,11 @@ def tree(text):
 class Import(helping.Case):
     """What `dlkt import` writes."""
 
+    @property
+    def without_others(self):
+        """The environment in which no other Python is tried."""
+        return {**helping.Case.environment(self), "DLKT_PYTHON": sys.executable}
+
     def imported(self, archive, *words):
         """How the command ends on an archive of this text, in a folder of its own."""
         name = self.file("archive.kyx", archive)
@@ -49,7 +55,7 @@ class Import(helping.Case):
     def test_the_cruise_control_is_written(self):
         run = self.imported(CRUISE.read_text())
         files = self.files("cruise")
-        self.assertEqual((run.returncode, sorted(files)), (0, ["README", "model"]))
+        self.assertEqual((run.returncode, sorted(files)), (0, ["README", "model", "sketch"]))
         trees = Trees()
         by_hand = reader.formula((CRUISE.parent / "model").read_text(), trees)
         found, notes = reader.model(files["model"], trees)
@@ -149,7 +155,10 @@ class Import(helping.Case):
             self.assertEqual((run.returncode, tree(run.stdout)), (0, ("imply", 0)))
 
     def test_without_lark_it_is_said_what_is_wanted(self):
-        with mock.patch("importlib.util.find_spec", return_value=None):
+        loaded = [name for name in sys.modules if name.startswith("dlkt.archive.")]
+        with mock.patch.dict(sys.modules, {"lark": None}), mock.patch.object(self, "environment", lambda: self.without_others):
+            for name in loaded:
+                del sys.modules[name]
             run = self.imported(SIMPLE)
         self.assertEqual((run.returncode, run.stderr.count("\n")), (2, 1))
         self.assertIn("python3-lark", run.stderr)

@@ -6,9 +6,7 @@ The passes are `read` (the text's entries, with their places), `check` (sorts an
 `proving` proves an entry. This file alone doesn't need the package lark.
 """
 
-import importlib
 import re
-
 
 ENDING = ".kyx"
 BEGIN = re.compile(
@@ -21,8 +19,3 @@ BEGIN = re.compile(
 def is_archive(name: str, data: bytes) -> bool:
     """Whether a file is an archive: by its ending, or by how it begins."""
     return name.endswith(ENDING) or BEGIN.match(data.decode("utf-8", "replace")) is not None
-
-
-def want_lark() -> None:
-    """Goes on only with the package that reads grammars: `dlkt.packages` takes a Python that has it, or says what to install."""
-    importlib.import_module("lark")

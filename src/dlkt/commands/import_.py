@@ -19,7 +19,6 @@ import sys
 from pathlib import Path
 from typing import TYPE_CHECKING
 
-from dlkt.archive import want_lark
 from dlkt.program import one_line, program_of, seconds
 
 if TYPE_CHECKING:
@@ -127,8 +126,7 @@ class Importer:
 
 def run(options: argparse.Namespace) -> int:
     """Reads an archive."""
-    want_lark()
-    from dlkt.archive.opening import opened
+    from dlkt.archive.opening import opened  # it needs the package lark
 
     importer = Importer(options)
     for one in opened(importer.archive, options.entry):

@@ -46,7 +46,7 @@ import time
 from pathlib import Path
 from typing import TYPE_CHECKING, Any, Callable, Sequence
 
-from dlkt.archive import is_archive, want_lark
+from dlkt.archive import is_archive
 from dlkt.leaves import NOT_ASKED, POWER, WAY_OUT, listed
 from dlkt.program import TERM_BEGINS, Refused, count, numbered, one_line, program_of, put_at, read_bytes, refuse_bad_output, seconds, shown
 from dlkt.verdict import NOTHING_KNOWN, OPEN, REFUTED, Fault, Guard, Kind, Leaf, Maker, Options, Piece, Proof, Source, Spot, Verdict, counted, is_said_of, verdict_on
@@ -336,7 +336,6 @@ def on_archive(options: argparse.Namespace) -> int:
         raise Refused("an archive has its proofs in it: name no PROOF")
     if options.output is not None or options.page is not None:
         raise Refused("the entries of an archive have no TERM and no page: dlkt import --prove writes their strategies")
-    want_lark()
     from dlkt.archive import proving, verifying  # they need the package lark
 
     limits = proving.Limits(program_of(options.dlk), SEARCH_SECONDS, options.seconds)
