@@ -11,7 +11,7 @@ another one, or a word or a mark becomes another one of the same text, is left o
 model; a changed model is printed, proved by the strategy, and checked with the term; a changed term is checked. Then `check` must say of each
 term that `prove` writes what `prove` said. The parts may be `script` and `lemma`, too: a script of `session` runs the strategy, goes back, runs it again,
 and saves, and what is saved must be a term of so many lines for `check`; a lemma is the term, which `link` puts into the place of the model's one goal, and
-`check` must say of the whole what `link` said. Where a changed term of version 2 isn't in the grammar, the first wrong line must be the one that tools/terms.py
+`check` must say of the whole what `link` said. Where a changed term of version 2 isn't in the grammar, the first wrong line must be the one that src/dlkt/terms.py
 says, unless a line before it is no step of the calculus.
 
 Each answer must be one of those that `docs/FILES.md` and `docs/STRATEGIES.md` list, with its status, and nothing may be accepted with

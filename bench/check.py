@@ -12,10 +12,9 @@ last one is set against metamath. `metamath` and `set.mm` are those of Debian's 
 """
 import pathlib
 import re
-import sys
 import tempfile
 
-from common import PROGRAM, TOP, converted, knows, measured, measurer
+from common import PROGRAM, TOP, converted, knows, measured, measurer, words_of
 
 LEMMA = TOP / "examples" / "increment"
 SET_MM = pathlib.Path("/usr/share/metamath/databases/set.mm")
@@ -103,7 +102,7 @@ def rates_of(program, version=1):
 
 def main():
     """Times each program, and metamath."""
-    for program in [pathlib.Path(word) for word in sys.argv[1:]] or [PROGRAM]:
+    for program in [pathlib.Path(word) for word in words_of(__doc__, "PROGRAM")] or [PROGRAM]:
         print(program)
         rates = rates_of(program)
         if knows("convert", program):

@@ -2,6 +2,7 @@
 
 The program is that of `./dlk`, or the one that DLK names.
 """
+import argparse
 import functools
 import os
 import pathlib
@@ -43,6 +44,15 @@ class Measured(typing.NamedTuple):
     printed: bytes
     seconds: float
     peak: int
+
+
+def words_of(told, behind=""):
+    """The words of a script's command line, which are none where it takes none. `--help` prints what the script tells of itself, and does nothing
+    else."""
+    parser = argparse.ArgumentParser(description=told, formatter_class=argparse.RawDescriptionHelpFormatter)
+    if behind:
+        parser.add_argument("words", nargs="*", metavar=behind)
+    return getattr(parser.parse_args(), "words", [])
 
 
 def answer(*words, program=PROGRAM):

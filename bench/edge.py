@@ -8,6 +8,7 @@ With `--bugs` it is tried itself. Each file of `bench/edges/` makes the code wro
 in `main` and in `explain`; a program is built of it without proof, and some row must not come out as wanted. The exit status is 0 where each
 is seen. Names of bugs behind `--bugs` are tried alone.
 """
+import argparse
 import fcntl
 import os
 import pathlib
@@ -24,7 +25,7 @@ from concurrent.futures import ThreadPoolExecutor
 from common import PROGRAM
 
 TOP = pathlib.Path(__file__).resolve().parent.parent
-sys.path.append(str(TOP / "tools"))
+sys.path.append(str(TOP / "dev"))
 import consistent
 
 DLK = os.path.abspath(os.environ.get("DLK", PROGRAM))
@@ -436,8 +437,11 @@ def try_bugs(names, jobs=2):
 
 def main():
     """Prints a line for each row."""
-    if sys.argv[1:2] == ["--bugs"]:
-        return try_bugs(sys.argv[2:])
+    parser = argparse.ArgumentParser(description=__doc__, formatter_class=argparse.RawDescriptionHelpFormatter)
+    parser.add_argument("--bugs", nargs="*", metavar="NAME", help="try the files of bench/edges, or those named")
+    given = parser.parse_args()
+    if given.bugs is not None:
+        return try_bugs(given.bugs)
     with tempfile.TemporaryDirectory() as name:
         at = pathlib.Path(name)
         for file, text in {"model": MODEL, "term": IN_FULL, "open": OPEN_TERM, "strategy": b"implyR(1); close\n"}.items():

@@ -10,7 +10,7 @@ Run it after `./dlk` has built the program.
 import pathlib
 import tempfile
 
-from common import PROGRAM, answer, least_processor_time
+from common import PROGRAM, answer, least_processor_time, words_of
 
 COUNTS = (50, 100, 200, 350, 500)
 RUNS = 3
@@ -45,6 +45,7 @@ def measured(folder, count):
 
 def main():
     """Prints a line for each number, and the growth."""
+    words_of(__doc__)
     if not PROGRAM.exists():
         raise SystemExit("gen.py: the program isn't built")
     with tempfile.TemporaryDirectory() as name:

@@ -7,7 +7,7 @@ import pathlib
 import tempfile
 import time
 
-from common import answer
+from common import answer, words_of
 
 MOST_BYTES = 1_048_576
 
@@ -56,6 +56,7 @@ def cases():
 
 def main():
     """Prints a line for each file."""
+    words_of(__doc__)
     base = None
     with tempfile.TemporaryDirectory() as name:
         file = pathlib.Path(name) / "file"

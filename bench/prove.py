@@ -10,7 +10,7 @@ Run it after `./dlk` has built the program.
 import pathlib
 import tempfile
 
-from common import PROGRAM, answer, least_processor_time
+from common import PROGRAM, answer, least_processor_time, words_of
 
 COUNTS = (1_000, 3_000, 10_000, 15_900)
 GOALS = 256
@@ -50,6 +50,7 @@ def compared(folder, title, model, strategy):
 
 def main():
     """Prints a line for each run."""
+    words_of(__doc__)
     if not PROGRAM.exists():
         raise SystemExit("prove.py: the program isn't built")
     times = {}

@@ -5,7 +5,6 @@ python3 bench/reading.py OLD has the path of the earlier program. Each text is r
 printed of it. Then each program checks a term of real proofs that are merged one after another.
 """
 import pathlib
-import sys
 import tempfile
 
 import check
@@ -48,7 +47,11 @@ def compared(title, words, accepts, old):
 
 
 def main():
-    old = pathlib.Path(sys.argv[1]).resolve()
+    """Prints a line for each text, and for each term."""
+    named = common.words_of(__doc__, "OLD")
+    if len(named) != 1:
+        raise SystemExit("reading.py: name one earlier program")
+    old = pathlib.Path(named[0]).resolve()
     with tempfile.TemporaryDirectory() as name:
         folder = pathlib.Path(name)
         model = folder / "model"

@@ -11,11 +11,10 @@ by turn: the last one is set against the first and against metamath. `metamath` 
 metamath-databases.
 """
 import pathlib
-import sys
 import tempfile
 
 from check import SET_MM, shifted, spent
-from common import PROGRAM, TOP, answer, steps_of
+from common import PROGRAM, TOP, answer, steps_of, words_of
 
 GALLERY = TOP / "examples" / "gallery"
 COUNT = 10
@@ -82,7 +81,7 @@ def measured_proving(program, pairs, folder):
 
 def main():
     """Measures each program, and metamath."""
-    programs = [pathlib.Path(word) for word in sys.argv[1:]] or [PROGRAM]
+    programs = [pathlib.Path(word) for word in words_of(__doc__, "PROGRAM")] or [PROGRAM]
     with tempfile.TemporaryDirectory() as name:
         pairs = longest_terms(programs[-1], pathlib.Path(name))
         rates = measured_all(programs, "as it is", pairs)

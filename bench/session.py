@@ -8,10 +8,9 @@ Three pairs of scripts are run, turn by turn, the least of nine runs: 1,000 time
 aimed at. It needs a C compiler, and a program that is built as `./dlk` builds it: that of DLK, or the one that is named.
 """
 import pathlib
-import sys
 import tempfile
 
-from common import PROGRAM, knows, measured, measurer
+from common import PROGRAM, knows, measured, measurer, words_of
 
 RUNS = 9
 MODEL = "x>=0 & y>0 -> [a:=1; {x'=v,v'=a & v>=0}]x>=0"
@@ -38,7 +37,8 @@ def least(helper, program, folder, scripts):
 
 def main():
     """Prints a line for each pair of scripts, and the times of the others."""
-    program = pathlib.Path(sys.argv[1]).resolve() if len(sys.argv) > 1 else PROGRAM
+    named = words_of(__doc__, "PROGRAM")
+    program = pathlib.Path(named[0]).resolve() if named else PROGRAM
     if not knows("session", program):
         raise SystemExit(f"session.py: {program} doesn't know `session`")
     with tempfile.TemporaryDirectory() as name:

@@ -13,7 +13,7 @@ import subprocess
 import tempfile
 import typing
 
-from common import PROGRAM, TOP, knows
+from common import PROGRAM, TOP, knows, words_of
 from versioned import by_nodes, outputs_of
 
 LIBRARY = r"""
@@ -172,6 +172,7 @@ def refuse_each_of_test(library):
 
 def main():
     """Prints for each case how often each status came."""
+    words_of(__doc__)
     with tempfile.TemporaryDirectory() as name:
         folder = pathlib.Path(name)
         (folder / "refuse.c").write_text(LIBRARY)

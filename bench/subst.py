@@ -8,10 +8,9 @@ built one: so an old program runs beside a new one. A result that doubles at eac
 the last one that is given; without a table of results it never ends.
 """
 import pathlib
-import sys
 import tempfile
 
-from common import PROGRAM, least_processor_time
+from common import PROGRAM, least_processor_time, words_of
 
 # numbers of nodes, each four times the one before
 SIZES = (1000, 4000, 16000, 64000)
@@ -68,10 +67,11 @@ def seconds(folder, text, pairs, runs, program):
 
 def main():
     """Times each program, and at last the result that doubles."""
-    most = int(sys.argv[1]) if len(sys.argv) > 1 else SIZES[-1]
+    named = words_of(__doc__, "NUMBER PROGRAM")
+    most = int(named[0]) if named else SIZES[-1]
     with tempfile.TemporaryDirectory() as name:
         folder = pathlib.Path(name)
-        programs = [pathlib.Path(word) for word in sys.argv[2:]] or [PROGRAM]
+        programs = [pathlib.Path(word) for word in named[1:]] or [PROGRAM]
         for program in programs:
             print(program)
             time_shapes(folder, most, program)

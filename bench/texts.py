@@ -6,7 +6,7 @@ Each time is the least of twenty runs, less that of a file of one variable. Run 
 import pathlib
 import tempfile
 
-from common import least_time
+from common import least_time, words_of
 
 RUNS = 20
 BRACKETS = 1200
@@ -57,6 +57,7 @@ def seconds(path, text):
 
 def main():
     """Prints a line for each text."""
+    words_of(__doc__)
     with tempfile.TemporaryDirectory() as name:
         path = pathlib.Path(name) / "file"
         base = seconds(path, "x")

@@ -7,10 +7,9 @@ number of nodes. More arguments are paths of programs, each timed in turn in the
 """
 import itertools
 import pathlib
-import sys
 import tempfile
 
-from common import PROGRAM, least_processor_time
+from common import PROGRAM, least_processor_time, words_of
 
 # numbers of nodes, each four times the one before
 SIZES = (1000, 4000, 16000, 64000)
@@ -114,10 +113,11 @@ def time_shapes(path, sizes, program):
 
 def main():
     """Times each program."""
-    most = int(sys.argv[1]) if len(sys.argv) > 1 else SIZES[-1]
+    named = words_of(__doc__, "NUMBER PROGRAM")
+    most = int(named[0]) if named else SIZES[-1]
     sizes = [nodes for nodes in SIZES if nodes <= most]
     with tempfile.TemporaryDirectory() as folder:
-        for program in [pathlib.Path(word) for word in sys.argv[2:]] or [PROGRAM]:
+        for program in [pathlib.Path(word) for word in named[1:]] or [PROGRAM]:
             print(program)
             time_shapes(pathlib.Path(folder) / "file", sizes, program)
 

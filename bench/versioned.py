@@ -1,4 +1,4 @@
-"""The same terms in both versions of their files, for the scripts of this folder: by tools/terms.py, and not by the program that is measured.
+"""The same terms in both versions of their files, for the scripts of this folder: by src/dlkt/terms.py, and not by the program that is measured.
 
 A row is a run with what it must answer. Behind each row that has a term of version 1 stands the same row with the same term in version 2, where a
 refusal names the step's line in that file.
@@ -8,7 +8,7 @@ import sys
 
 from common import TOP, knows
 
-sys.path.insert(0, str(TOP / "tools"))
+sys.path.insert(0, str(TOP / "src"))
 sys.setrecursionlimit(60_000)
 from dlkt import terms  # noqa: E402  (behind the path)
 

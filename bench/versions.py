@@ -15,11 +15,10 @@ import pathlib
 import re
 import shutil
 import subprocess
-import sys
 import tempfile
 
 from check import SET_MM, spent, term as long_term
-from common import PROGRAM, TOP, converted, knows, measured, measurer, steps_of
+from common import PROGRAM, TOP, converted, knows, measured, measurer, steps_of, words_of
 from real import repeated
 
 STORED = TOP / "bench" / "data" / "version_1"
@@ -133,7 +132,8 @@ def growing(bench):
 
 def main():
     """Prints all of it."""
-    program = pathlib.Path(sys.argv[1]).resolve() if len(sys.argv) > 1 else PROGRAM
+    named = words_of(__doc__, "PROGRAM")
+    program = pathlib.Path(named[0]).resolve() if named else PROGRAM
     if not knows("convert", program):
         raise SystemExit(f"versions.py: {program} doesn't know `convert`")
     with tempfile.TemporaryDirectory() as name:

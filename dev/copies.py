@@ -1,7 +1,7 @@
 #!/usr/bin/env python3
 """Lists what stands word for word in several files of definitions and proofs.
 
-    python3 tools/copies.py [--least LINES] [FOLDER]
+    python3 dev/copies.py [--least LINES] [FOLDER]
 
 A lemma or a definition is a signature with the clauses behind it, at the left edge, in a module or behind `where`. That one is public and another
 isn't makes no difference, nor how far it is indented. For each that stands in several files of `crates/*/specs` and `crates/*/proofs` below the

@@ -1,7 +1,7 @@
 #!/usr/bin/env python3
 """Looks whether the program opens one counter of looks at nodes, and no other.
 
-    python3 tools/counters.py
+    python3 dev/counters.py
 
 What is proved of looks speaks of the counter that is handed in. A call that opened a second one, and handed that on, would take looks that
 the first doesn't count, and no contract would say so. The constructor can't be kept from them: whoever stands above `dlk_store` may call what
@@ -12,6 +12,7 @@ that says what a counter is, and the one with `main`, where one blank is made an
 It prints a line, and for each place that opens another counter one more. The exit status is 0 where there is none, and else 1.
 """
 
+import argparse
 import re
 import sys
 from pathlib import Path
@@ -65,6 +66,8 @@ def faults_of(file: Path, lines: list[str]) -> list[str]:
 
 
 def main() -> int:
+    """Reads the code of the program."""
+    argparse.ArgumentParser(description=__doc__, formatter_class=argparse.RawDescriptionHelpFormatter).parse_args()
     crates = crates_below("dlk")
     faults, seen = [], set()
     for crate in crates:

@@ -1,11 +1,11 @@
 #!/usr/bin/env python3
 """Prints docs/DEFINITIONS.md: each definition that the contract of `run` and its premises rest on, in parts, in reading order.
 
-    python3 docs/definitions.py > /tmp/DEFINITIONS.md    prints the document
-    python3 docs/definitions.py --check                  exits 1 where docs/DEFINITIONS.md is not that document
+    python3 dev/definitions.py > /tmp/DEFINITIONS.md    prints the document
+    python3 dev/definitions.py --check                  exits 1 where docs/DEFINITIONS.md is not that document
 
 It reads the clauses of `run` in the code, and follows every word that one of them cites through the files of `specs/`; so it does with the
-clauses of the trait `Desk`. What is reached becomes the rows of the document, with the lines counted. `definitions.json` says the rest:
+clauses of the trait `Desk`. What is reached becomes the rows of the document, with the lines counted. `docs/definitions.json` says the rest:
 the parts, each with its clauses; the sections in reading order, a file of `specs/` each; the sources; and what a definition says where the
 comment above it doesn't do. A definition stands in the first part that needs it.
 
@@ -664,7 +664,7 @@ def check_document(text):
         stop("there is no docs/DEFINITIONS.md")
     if DOCUMENT.read_bytes() != text.encode("utf-8"):
         number = first_difference(DOCUMENT.read_bytes().decode("utf-8", "replace"), text)
-        stop(f"docs/DEFINITIONS.md differs from what docs/definitions.py prints, first in line {number}")
+        stop(f"docs/DEFINITIONS.md differs from what dev/definitions.py prints, first in line {number}")
 
 
 def main():

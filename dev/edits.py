@@ -1,12 +1,12 @@
 #!/usr/bin/env python3
 """Tries the wrong bodies of the crates: the prover must refuse each.
 
-    python3 tools/edits.py [NAME ..] [--room FOLDER] [--jobs N] [--table]
-    python3 tools/edits.py [NAME ..] --together
-    python3 tools/edits.py [NAME ..] --look
-    python3 tools/edits.py [NAME ..] --starved [--together | --look]
-    python3 tools/edits.py [NAME ..] --silent [--together | --look]
-    python3 tools/edits.py --consistent [NAME ..] [--room FOLDER] [--jobs N] [--look]
+    python3 dev/edits.py [NAME ..] [--room FOLDER] [--jobs N] [--table]
+    python3 dev/edits.py [NAME ..] --together
+    python3 dev/edits.py [NAME ..] --look
+    python3 dev/edits.py [NAME ..] --starved [--together | --look]
+    python3 dev/edits.py [NAME ..] --silent [--together | --look]
+    python3 dev/edits.py --consistent [NAME ..] [--room FOLDER] [--jobs N] [--look]
 
 An edit is a file that makes the code of a crate wrong. Those that tell most stand in `crates/NAME/must-fail/`, and the gate tries them; the
 others stand in `crates/NAME/edits/`. This tries both, of the named crates or of all that have any, with the files as they stand in this
@@ -25,9 +25,10 @@ Behind the run a line an edit says what came of it:
 
 with the place, and the clause or other condition that is not proved there. `for a limit` stands where the prover gave up without a verdict,
 and `bad` where the edit can't be applied or read, so that it says nothing. Last come the sums by crate; with --table as rows of a table.
-The exit status is 0 where each edit is refused, 1 where one isn't, and 2 where they could not be tried.
+The exit status is 0 where each edit is refused, 1 where one isn't, and 2 where they could not be tried. Of each crate whose wrong bodies were all
+refused a row is written to dev/tried.txt: by that `.ci/run` sees which crates changed since (`dev/tried.py`).
 
-With --together wrong bodies of different functions stand in a crate at the same time, and one check tries all of them: `tools/rounds.py` says
+With --together wrong bodies of different functions stand in a crate at the same time, and one check tries all of them: `dev/rounds.py` says
 why that is the same. It takes a fifth of the time, or less, and is the way to try the edits of a crate that one works on.
 
 With --look nothing is tried: it is only said which edits can't be applied, since the text that they change is gone or stands there twice. That
@@ -37,14 +38,14 @@ With --starved bodies are made and tried in place of those in the folders: in ea
 a function can answer both. One that isn't refused is no fault by itself: an allocation may come first, and want of memory is free then. With
 --look the refusals are only listed, each with its place and the function that it stands in.
 
-With --silent the bodies are those of `tools/silent/NAME/`, of which no clause was thought to speak. One that isn't refused is what
+With --silent the bodies are those of `dev/silent/NAME/`, of which no clause was thought to speak. One that isn't refused is what
 was thought, so the exit status is 1 as a rule; what is refused belongs into `edits/`.
 
-With --consistent the names are those of changes in `tools/consistent/`, or none for all. Each makes one mistake in a definition and in the code
-alike, which no proof sees, and the documents, the examples and the tests have to: `tools/consistent.py` says how they are tried. It takes a build
+With --consistent the names are those of changes in `dev/consistent/`, or none for all. Each makes one mistake in a definition and in the code
+alike, which no proof sees, and the documents, the examples and the tests have to: `dev/consistent.py` says how they are tried. It takes a build
 without proof for each, so many at a time as --jobs says. A line a change says what has seen it:
 
-    box_is_turned: seen by docs/examples.py: README.md: $ ./dlk check examples/first/model examples/first/term
+    box_is_turned: seen by dev/doc_examples.py: README.md: $ ./dlk check examples/first/model examples/first/term
     last_row_is_lost: seen by the test it_is_there of dlk_tests_rules
     nothing_is_wrong: NOT SEEN
 
@@ -68,10 +69,11 @@ from typing import NamedTuple
 
 import consistent
 import rounds
+import tried as tried_file
 
 TOP = Path(__file__).resolve().parent.parent
 FOLDERS = ("must-fail", "edits")
-SILENT = TOP / "tools" / "silent"
+SILENT = TOP / "dev" / "silent"
 AHEAD = re.compile(r"rt: \w+(?: proved| NOT PROVED| is kept|: its tests are|: trying its|: \d+ of its)")
 SAID = re.compile(r"rt: must-fail (\w+)/(\S+)\.edit: (.*)")
 PLACE = re.compile(r"\b((?:src|specs|proofs)/\S+?:\d+:\d+)")
@@ -225,7 +227,7 @@ def room_of(folder, kind="edits"):
     room = Path(folder or Path(tempfile.gettempdir()) / f"dlk-{kind}.{os.getuid()}").absolute()
     if room == TOP or TOP in room.parents:
         raise Refused(f"{room} lies in this checkout, where the gate would find it: name a folder outside")
-    mark = room / f"of-tools-{kind}"
+    mark = room / f"of-dev-{kind}"
     if room.exists() and (not mark.exists() or room.stat().st_uid != os.getuid()):
         raise Refused(f"{room} is there, and not made by this script")
     room.mkdir(mode=0o700, parents=True, exist_ok=True)
@@ -426,7 +428,7 @@ def try_consistent(given):
     every = consistent.changes()
     for name in given.names:
         if name not in every:
-            raise Refused(f"{name} is no change of tools/consistent")
+            raise Refused(f"{name} is no change of dev/consistent")
     names = list(dict.fromkeys(given.names)) or list(every)
     if given.look:
         return 0 if consistent.look(names) else 1
@@ -464,6 +466,8 @@ def main():
         if shutil.which("rt") is None:
             raise Refused("there is no rt on the path: edits are tried with the Rattle toolchain")
         room = room_of(given.room)
+        # of the files that are copied now: what changes while they are tried isn't tried
+        rows = [tried_file.row_of(TOP / "crates" / name) for name in edits] if not given.silent else []
         copy(room, edits or dict.fromkeys(starved, {}))
         for name, bodies in starved.items():
             starve(room, name, bodies)
@@ -471,6 +475,7 @@ def main():
         every = tried(room, edits, max(1, given.jobs), given.together)
         print("\n".join(it.line() for it in every), flush=True)
         tell_sums(list(edits), every, given.table)
+        tried_file.put([row for row in rows if all(it.kind in KINDS[:2] for it in every if it.crate == row.crate)])
         return 0 if all(it.kind in KINDS[:2] for it in every) else 1
     except (Refused, OSError) as why:
         print(f"edits.py: {why}", file=sys.stderr)

@@ -94,7 +94,11 @@ def is_apart(folder, body, others):
     if names & mine:
         return False
     texts = {it: text_of(folder, it.file, it.lines) for of in (body, *others) for it in of.changes}
-    named = lambda words, changes: any(re.search(rf"\b{word}\b", texts[it]) for word in words for it in changes)
+
+    def named(words: set[str], changes: list[Change]) -> bool:
+        """Whether one of these names stands in the text of a change."""
+        return any(re.search(rf"\b{word}\b", texts[it]) for word in words for it in changes)
+
     return not named(names, body.changes) and not any(named(mine, it.changes) for it in others)
 
 

@@ -1,4 +1,4 @@
-"""A plain reading of what docs/FILES.md says of `link` and `trim`, over terms as tools/terms.py reads them: for comparison with the program, with which it
+"""A plain reading of what docs/FILES.md says of `link` and `trim`, over terms as dlkt.terms reads them: for comparison with the program, with which it
 shares no code. It works on steps that are taken: whether they are is for the program to say.
 """
 
@@ -7,7 +7,7 @@ from pathlib import Path
 
 sys.path.insert(0, str(Path(__file__).resolve().parent.parent / "src"))
 from dlkt import terms  # noqa: E402  (behind the path)
-from dlkt import reader as texts  # noqa: E402
+from dlkt import reader  # noqa: E402
 from dlkt.terms import Step, Term  # noqa: E402
 from dlkt.trees import Trees  # noqa: E402
 
@@ -35,8 +35,8 @@ def same_trees(steps, trees):
     made = []
     for line in lines.split("\n")[:-1]:
         found = terms.STEP_LINE.fullmatch(line)
-        readers = (lambda rest: texts.sequent(rest, trees), lambda rest: texts.pairs(rest, trees), lambda rest: texts.formula(rest, trees))
-        made.append(terms.step_of(int(found[1]), len(made) + 1, found[2], found[3], *readers))
+        readers = terms.Readers(lambda rest: reader.sequent(rest, trees), lambda rest: reader.pairs(rest, trees), lambda rest: reader.formula(rest, trees))
+        made.append(terms.step_of(int(found[1]), len(made) + 1, found[2], found[3], readers))
     return made
 
 

@@ -22,7 +22,7 @@ MODEL = "x>=0 -> x>=0&true"
 
 
 def made(goal, strategy):
-    """The goals that a strategy makes of a goal, or its failure. A mark as tools/failing.py writes it stands where it fails."""
+    """The goals that a strategy makes of a goal, or its failure. A mark as src/dlkt/failing.py writes it stands where it fails."""
     if strategy == "nil":
         return [goal]
     known = KNOWN.get((goal, strategy))

@@ -1,15 +1,21 @@
 """Tests of the table of many proofs."""
 
 import contextlib
+import importlib.util
 import json
 import os
 import signal
 import subprocess
 import sys
 import time
+import unittest
+import warnings
+from types import SimpleNamespace
+from unittest import mock
 
 import helping
 from dlkt.commands import batch
+from dlkt.program import Refused
 from helping import CLOSES_INCREMENT, INCREMENT, Case, needs_program
 
 TRIVIAL, CLOSES_TRIVIAL = "x>=0 -> x>=0\n", "implyR(1); close\n"
@@ -154,6 +160,36 @@ class Table(Batch):
             asked.unlink()
 
 
+@unittest.skipIf(importlib.util.find_spec("distributed") is None, "python3-distributed isn't installed")
+@needs_program
+class Dask(Batch):
+    """A scheduler and workers in this process. dev/dask_trial.py tries those of other processes, and kills one."""
+
+    def setUp(self):
+        super().setUp()
+        warnings.simplefilter("ignore")
+        self.enterContext(mock.patch.dict(os.environ, self.environment()))
+        self.options = SimpleNamespace(dlk=helping.PROGRAM, seconds=20, jobs=2)
+
+    def test_the_same_rows_in_order(self):
+        import distributed
+        self.several()
+        (self.proofs / "dangling").mkdir()
+        (self.proofs / "dangling" / "model").write_text(TRIVIAL)
+        (self.proofs / "dangling" / "strategy").symlink_to("nowhere")
+        proofs = batch.proofs_below([str(self.proofs)])
+        with distributed.LocalCluster(n_workers=2, threads_per_worker=1, processes=False, dashboard_address=None) as cluster:
+            rows = list(batch.rows_by_dask(batch.client_of(cluster.scheduler_address), proofs, self.options))
+        alone = list(batch.Crew(self.options).rows(proofs))
+        self.assertEqual([row._replace(seconds="") for row in rows], [row._replace(seconds="") for row in alone])
+        self.assertEqual([row.verdict for row in rows].count("verified"), 2)
+
+    def test_no_scheduler(self):
+        with mock.patch.object(batch, "PATIENCE", 1), self.assertRaises(Refused) as fault:
+            batch.client_of("tcp://127.0.0.1:9")
+        self.assertEqual(str(fault.exception), "no Dask scheduler answers at tcp://127.0.0.1:9")
+
+
 class Refusals(Batch):
     def refusal(self, *words):
         """The one line by which nothing could be looked at."""
@@ -184,4 +220,4 @@ class Changes(Case):
 
 
 if __name__ == "__main__":
-    helping.unittest.main()
+    unittest.main()

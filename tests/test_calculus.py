@@ -5,7 +5,8 @@ import subprocess
 import unittest
 
 from helping import Case, PROGRAM, ROOT, needs_program
-from dlkt.calculus import AXIOMS  # behind helping, which puts tools/ on the path
+from dlkt.calculus import AXIOMATIC_RULES, AXIOMS, CONNECTIVES, DERIVES, LIBRARY, OTHER_WORDS, PREMISES, STEPS
+from dlkt.trees import ROWS
 
 AXIOM = re.compile(r"\| `(\w+)` \| ([EQCRIF]) \| `(.*?)` \| ")
 RULE = re.compile(r"\| `(\w+)` \| `(.*?)` \| `(.*?)` \| ")
@@ -16,6 +17,41 @@ def rows(pattern):
     text = (ROOT / "docs" / "CALCULUS.md").read_text(encoding="utf-8")
     found = [pattern.match(line) for line in text.splitlines()]
     return [[it.replace("\\|", "|") for it in row.groups()] for row in found if row]
+
+
+def drawn():
+    """How many premises each rule has that is drawn on the page: those on the line above its own have blanks between."""
+    lines = (ROOT / "docs" / "CALCULUS.md").read_text(encoding="utf-8").splitlines()
+    found = {}
+    for above, line in zip(lines, lines[1:]):
+        rule = re.fullmatch(r" +-+ (\w+)\(.*\)", line)
+        if rule:
+            found[rule[1]] = len(re.findall(r"==>", above))
+    return found
+
+
+class Tables(unittest.TestCase):
+    def test_rules_have_the_premises_that_are_drawn(self):
+        self.assertEqual(drawn(), PREMISES)
+
+    def test_axiomatic_rules(self):
+        found = {name: (premise, conclusion) for name, premise, conclusion in rows(RULE)}
+        self.assertEqual(found, AXIOMATIC_RULES)
+
+    def test_words_are_those_of_the_page_of_strategies(self):
+        text = (ROOT / "docs" / "STRATEGIES.md").read_text(encoding="utf-8")
+        for word in (*LIBRARY, *OTHER_WORDS):
+            self.assertRegex(text, rf"\n\| `{word}\b", word)
+        self.assertLessEqual(set(DERIVES) | set(STEPS), set(AXIOMS))
+        self.assertLessEqual(set(CONNECTIVES), set(PREMISES))
+
+    def test_operators_are_those_of_node_lines(self):
+        text = (ROOT / "docs" / "FILES.md").read_text(encoding="utf-8")
+        words = {}
+        for sort, cells in re.findall(r"^\| (term|formula|program) \| (.*) \|$", text, re.MULTILINE):
+            for word in re.findall(r"`([a-z]+)(?: [^`]*)?`", cells):
+                words[word] = sort
+        self.assertEqual(words, {word: row.sort for word, row in ROWS.items()})
 
 
 @needs_program

@@ -1,4 +1,4 @@
-"""Tests of what `tools/copies.py` lists."""
+"""Tests of what `dev/copies.py` lists."""
 
 import subprocess
 import sys
@@ -6,7 +6,7 @@ import tempfile
 import unittest
 from pathlib import Path
 
-TOOLS = Path(__file__).resolve().parent.parent
+TOOLS = Path(__file__).resolve().parent.parent / "dev"
 
 ONE = """-- a comment
 use Rattle.std.specs.Prelude.{◌≡◌}

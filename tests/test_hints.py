@@ -2,8 +2,8 @@
 
 import unittest
 
-from dlkt import hints, strategies, words
 from helping import BRAKE, CLOSES_BRAKE, Case, PROGRAM, ROOT, needs_program
+from dlkt import hints, strategies, words
 
 
 def said(found):

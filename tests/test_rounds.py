@@ -3,7 +3,7 @@ import tempfile
 import unittest
 from pathlib import Path
 
-import helping  # noqa: F401  (puts tools/ on the path)
+import helping  # noqa: F401  (puts dev/ on the path)
 import rounds
 
 SOURCE = """/// One more.

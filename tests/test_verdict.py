@@ -241,7 +241,7 @@ class Given(Verdict):
 
     def test_no_proof(self):
         run = self.tool("verify", self.file("model", INCREMENT))
-        self.assertEqual((run.returncode, run.stderr), (4, "dlkt verify: no PROOF is named: a strategy, or a term\n"))
+        self.assertEqual((run.returncode, run.stderr), (4, "dlkt verify: the search needs the solver z3, which isn't there: apt-get install z3\n"))
 
 
 @needs_program
@@ -266,14 +266,17 @@ class Mended(Verdict):
         said = self.said(INCREMENT, 'implyR(1);\n  cut("(x>=0 & x>1"); close')
         self.assertIn("strategy:2:19: refused: arguments: the text in quotes doesn't go on here (syntax); the ( at 2:8 has no other one", said)
         said = self.said(INCREMENT, 'useAt(DC,1,"r(||)~>x>=0)&x>1")')
-        self.assertIn("strategy:1:25: refused: arguments: the text in quotes doesn't go on here (syntax); the ) at 1:25 has no other one", said)
+        self.assertIn("strategy:1:24: refused: arguments: the text in quotes doesn't go on here (syntax); the ) at 1:24 has no other one", said)
         self.assertIn("strategy:1:1: refused: arguments: the word takes other arguments", self.said(INCREMENT, "implyR(x)"))
 
     def test_what_people_write(self):
         self.assertIn("strategy:1:17: hint: a `;` stands between two parts", self.said(INCREMENT, "implyR(1); close; "))
         self.assertIn("strategy:1:12: hint: a strategy has no comments with //", self.said(INCREMENT, "implyR(1); // close\nclose"))
-        self.assertIn("strategy:1:1: hint: there is no word auto; the command `dlkt auto MODEL`", self.said(INCREMENT, "auto"))
         self.assertNotIn("hint", self.said(INCREMENT, 'implyR(1); cut("x>=0 /* ; ) */"); <(nil, nil)'))
+
+    def test_the_word_auto_makes_a_sketch(self):
+        run = self.tool("verify", self.file("model", INCREMENT), self.file("strategy", "auto"))
+        self.assertEqual((run.returncode, run.stderr), (4, "dlkt verify: the search needs the solver z3, which isn't there: apt-get install z3\n"))
 
     def test_a_variable_beside_a_constant(self):
         said = self.said("M>0&M()>0&Amax>0&amax()>0 -> [x:=M;]x>=0\n", "implyR(1)")
@@ -329,8 +332,8 @@ class Errors(Verdict):
     def test_one_line_each(self):
         model, strategy = self.file("model", INCREMENT), self.file("strategy", CLOSES_INCREMENT)
         (self.folder / "folder").mkdir()
-        for words in (("nope", strategy), (model, "nope"), ("folder", strategy), (model, "folder"), (model, strategy, "-o", "folder"), (model, strategy, "-o", "nope/term"), (model,),
-                      ("-", strategy), (model, strategy, "--dlk", "/nope"), (model, strategy, "--dlk", model)):
+        for words in (("nope", strategy), (model, "nope"), ("folder", strategy), (model, "folder"), (model, strategy, "-o", "folder"),
+                      (model, strategy, "-o", "nope/term"), (model,), ("-", strategy), (model, strategy, "--dlk", "/nope"), (model, strategy, "--dlk", model)):
             run = self.tool("verify", *words)
             self.assertEqual((run.returncode, run.stdout, run.stderr.count("\n")), (4, "", 1), words)
 
@@ -425,6 +428,24 @@ class Watching(Verdict):
             process.send_signal(signal.SIGINT)
             _, said = process.communicate(timeout=20)
             self.assertEqual((process.returncode, said.rstrip("\n").split("\n")[-1]), (130, "dlkt verify: interrupted"))
+
+
+@needs_program
+class Interrupted(Verdict):
+    def test_control_c_ends_the_solvers_too(self):
+        asked = self.folder / "asked"
+        self.script_of_solver("z3", f"[ \"$1\" = --version ] && echo 1.0 && exit\necho $$ >> {asked}; exec /bin/sleep 60\n")
+        model, strategy = self.file("model", INCREMENT), self.file("strategy", CLOSES_INCREMENT)
+        with self.started("verify", model, strategy) as process:
+            for _ in range(600):
+                if asked.exists() and asked.read_text().endswith("\n"):
+                    break
+                time.sleep(0.1)
+            process.send_signal(signal.SIGINT)
+            _, said = process.communicate(timeout=20)
+        self.assertEqual((process.returncode, said), (130, "dlkt verify: interrupted\n"))
+        for solver in map(int, asked.read_text().split()):
+            self.assertRaises(ProcessLookupError, os.kill, solver, 0)
 
 
 if __name__ == "__main__":

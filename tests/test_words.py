@@ -2,10 +2,8 @@
 
 import unittest
 
-from dlkt import program as proving
-from dlkt import strategies
-from dlkt import words
 from helping import BRAKE, CHOICE, CLOSES_BRAKE, CLOSES_CHOICE, Case, PROGRAM, ROOT, needs_program
+from dlkt import program, strategies, words
 
 
 class Reading(unittest.TestCase):
@@ -39,8 +37,8 @@ def executed(folder, model, text, count):
         begin = f"{spent}; ("
         strategy = folder / "spent"
         strategy.write_text(f"{begin}{text})")
-        said = proving.answer(PROGRAM, "prove", model, strategy, folder / "none")
-        refusal = proving.refusal_in(said.text)
+        said = program.answer(PROGRAM, "prove", model, strategy, folder / "none")
+        refusal = program.refusal_in(said.text)
         if refusal is None or refusal.what != "budget":
             return found
         found.append(refusal.byte - len(begin))
@@ -113,7 +111,7 @@ class Words(Case):
         self.assertEqual(words.line_words(model, strategy, PROGRAM, term), [None])
 
     def test_a_strategy_that_fails(self):
-        with self.assertRaises(proving.Refused):
+        with self.assertRaises(program.Refused):
             self.runs("x>=0\n", "implyR(1)")
 
     def test_the_tool(self):

@@ -1,4 +1,6 @@
-"""The names of the calculus, as docs/CALCULUS.md and docs/STRATEGIES.md list them: axioms with their forms, rules, words of strategies."""
+"""The one table of the calculus, as docs/CALCULUS.md and docs/STRATEGIES.md list it: axioms with their forms, rules with how many premises they
+have, axiomatic rules, words of strategies. The table of operators is that of `dlkt.trees`. tests/test_calculus.py compares both with the documents.
+"""
 
 # The form of each axiom: E equivalence, Q equation, C conditional equivalence, R conditional equation, I implication, F fact.
 AXIOMS = {
@@ -23,6 +25,16 @@ PREMISES = {
         1,
     ),
     **dict.fromkeys("andR orL implyL equivR cut cutL cutR".split(), 2),
+}
+
+# The premise and the conclusion of each axiomatic rule.
+AXIOMATIC_RULES = {
+    "G": ("p(||)", "[a;]p(||)"),
+    "allgen": ("p(||)", "\\forall x_ p(||)"),
+    "mon": ("p(||) -> q(||)", "<a;>p(||) -> <a;>q(||)"),
+    "CT": ("f(||)=g(||)", "h(f(||))=h(g(||))"),
+    "CQ": ("f(||)=g(||)", "p(f(||)) <-> p(g(||))"),
+    "CE": ("p(||) <-> q(||)", "C{p(||)} <-> C{q(||)}"),
 }
 
 # How many `( )'` each axiom of differentials leaves, of those that `derive` uses.

@@ -5,11 +5,11 @@ gives the exit status. The table below has each command's name, its module, and 
 """
 
 import argparse
-import importlib
 import sys
-from typing import NamedTuple, NoReturn, Sequence
+from typing import Iterable, NamedTuple, NoReturn, Sequence
 
 from dlkt import __version__
+from dlkt.packages import imported, wanting
 from dlkt.program import INPUT_REFUSED, ended
 
 MOST_LEVELS = 60_000
@@ -25,15 +25,17 @@ class Command(NamedTuple):
 COMMANDS = {
     "verify": Command("dlkt.commands.verify", 4),
     "auto": Command("dlkt.commands.auto"),
+    "refute": Command("dlkt.commands.refute"),
+    "import": Command("dlkt.commands.import_"),
     "batch": Command("dlkt.commands.batch"),
     "leaves": Command("dlkt.commands.leaves"),
     "page": Command("dlkt.commands.page"),
-    "print": Command("dlkt.commands.print"),
     "tree": Command("dlkt.commands.tree"),
     "prompt": Command("dlkt.commands.prompt"),
+    "print": Command("dlkt.commands.print"),
     "readable": Command("dlkt.commands.readable"),
-    "refute": Command("dlkt.commands.refute"),
     "words": Command("dlkt.words"),
+    "lsp": Command("dlkt.commands.lsp"),
 }
 
 
@@ -48,20 +50,14 @@ class Words(argparse.ArgumentParser):
         self.exit(self.refused, f"{self.prog}: {message}\n")
 
 
-def words_of_all() -> tuple[Words, "argparse._SubParsersAction[Words]"]:
-    """The parser of the command line, and the place for its commands."""
+def parser_with(names: Iterable[str]) -> Words:
+    """The parser of the command line, with these commands."""
     parser = Words(prog="dlkt", description="What stands round dlk. `dlkt COMMAND --help` says more of a command.")
     parser.add_argument("--version", action="version", version=f"dlkt {__version__}")
-    return parser, parser.add_subparsers(dest="command", metavar="COMMAND", required=True, parser_class=Words)
-
-
-def main(words: Sequence[str]) -> int:
-    """Does what the words say, and gives the exit status."""
-    sys.setrecursionlimit(MOST_LEVELS)
-    parser, commands = words_of_all()
-    named = {words[0]: COMMANDS[words[0]]} if words and words[0] in COMMANDS else COMMANDS
-    for name, command in named.items():
-        module = importlib.import_module(command.module)
+    commands = parser.add_subparsers(dest="command", metavar="COMMAND", required=True, parser_class=Words)
+    for name in names:
+        command = COMMANDS[name]
+        module = imported(command.module)
         one = commands.add_parser(
             name, help=module.HELP, description=module.HELP, epilog=f"Example: {module.EXAMPLE}",
             formatter_class=argparse.RawDescriptionHelpFormatter,
@@ -69,7 +65,14 @@ def main(words: Sequence[str]) -> int:
         one.refused = command.refused
         module.add_words(one)
         one.set_defaults(run=module.run, refused=command.refused)
-    if named is not COMMANDS:
-        parser.refused = named[words[0]].refused
+    return parser
+
+
+def main(words: Sequence[str]) -> int:
+    """Does what the words say, and gives the exit status. A command that is named is read alone: the others would make each start slower."""
+    sys.setrecursionlimit(MOST_LEVELS)
+    named = words[:1] if words and words[0] in COMMANDS else []
+    parser = parser_with(named or COMMANDS)
+    parser.refused = COMMANDS[named[0]].refused if named else INPUT_REFUSED
     options = parser.parse_args(words)
-    return ended(f"dlkt {options.command}", options.run, options, options.refused)
+    return ended(f"dlkt {options.command}", wanting(options.run), options, options.refused)

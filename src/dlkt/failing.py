@@ -39,24 +39,24 @@ def new_name(*texts: str) -> str:
     return f"here{number}_"
 
 
-def up_to(text: str, way: Sequence[Part], mark: str) -> str:
-    """The strategy up to the last part of the way, with a mark where that part fails."""
+def up_to(text: str, way: Sequence[Part], mark: str, last: str = "({} | {})") -> str:
+    """The strategy up to the last part of the way, with a mark where that part fails; or with something else of that part and the mark last."""
     here, below = way[0], way[1:]
     source = text[here.begin : here.end]
     if not below or isinstance(here, Atom):
-        return f"({source} | {mark})"
+        return last.format(source, mark)
     if isinstance(here, Repeat):
-        return up_to(text, below, mark)
+        return up_to(text, below, mark, last)
     at = next(number for number, part in enumerate(here.parts) if part is below[0])
     before = [text[part.begin : part.end] for part in here.parts[:at]]
     if isinstance(here, Choice):
-        return "(" + " | ".join([*before, up_to(text, below, mark)]) + ")"
+        return "(" + " | ".join([*before, up_to(text, below, mark, last)]) + ")"
     if isinstance(here, Branch):
         after = ["nil"] * (len(here.parts) - at - 1)
-        return "<(" + ", ".join([*before, up_to(text, below, mark), *after]) + ")"
+        return "<(" + ", ".join([*before, up_to(text, below, mark, last), *after]) + ")"
     if isinstance(below[0], Branch) and len(below) == 1:
         return counted(before, below[0], mark)
-    return f"({'; '.join([*before, up_to(text, below, mark)])} | nil)"
+    return f"({'; '.join([*before, up_to(text, below, mark, last)])} | nil)"
 
 
 def counted(before: Sequence[str], branch: Branch, mark: str) -> str:

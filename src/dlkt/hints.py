@@ -14,7 +14,8 @@ from dlkt.solvers import Solvers, Word
 from dlkt.strategies import Atom, Part
 from dlkt.trees import Tree, Trees, text as text_of
 
-MOST_SECONDS = 5.0  # for the question whether assumptions contradict each other
+MOST_SECONDS = 2.0  # for the question whether assumptions contradict each other
+LONGEST_LOOK = 1 << 18  # bytes of a model that is read for hints
 MARK_OF_ORDER = b"\xef\xbb\xbf"
 COMMENT = re.compile(rb"/\*.*?\*/|//[^\n]*", re.DOTALL)
 TOKEN = re.compile(r"\\?[A-Za-z][A-Za-z0-9_]*")
@@ -289,7 +290,9 @@ def fault_in_quotes(program: str, text: str, byte: int) -> Hint | None:
 # Names and assumptions of a model
 
 def tree_of(model: bytes) -> Tree | None:
-    """The tree of a model, or none where it can't be read."""
+    """The tree of a model, or none where it can't be read, or is very long."""
+    if len(model) > LONGEST_LOOK:
+        return None
     try:
         return reader.model(model.decode("latin-1"), Trees())[0]
     except (reader.Wrong, RecursionError):

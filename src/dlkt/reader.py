@@ -1,13 +1,14 @@
-"""Reads the texts of formulas, programs, terms, sequents and substitutions to trees. docs/LANGUAGE.md has the grammar.
+"""Reads the texts of formulas, programs, terms, sequents and substitutions to trees. docs/LANGUAGE.md has the grammar, and the limits.
 
-It is for texts that the program has read already: what is none is refused at a byte, but not always at the byte that the program names, and
-the limits aren't looked at. Nothing of this is proved.
+A text is a string of one character a byte (`latin-1`). What the program refuses is refused here, too, and for the same reason, at a byte, where
+one is told; of a text that isn't in the grammar it may be another byte than the program names, where brackets hold a term and not a formula.
+tests/test_reader.py compares the two. Nothing of this is proved.
 """
 
 import re
 from typing import Callable, Mapping, NamedTuple, NoReturn, Sequence, TypeVar
 
-from dlkt.trees import FORMULA, TERM, Tree, Trees
+from dlkt.trees import FORMULA, MOST_ARGUMENTS, MOST_DEPTH, MOST_DIGITS, MOST_ITEMS, MOST_NODES, TERM, Tree, Trees, evolves
 
 TOKEN = re.compile(
     r"(?P<blank>(?:[ \t\r\n]|/\*.*?\*/|//[^\n]*)+)|(?P<word>[A-Za-z][A-Za-z0-9_]*)|(?P<number>[0-9]+(?:\.[0-9]+)?)|(?P<dot>\._[0-7])"
@@ -17,15 +18,17 @@ TOKEN = re.compile(
 COMPARISONS = {"=": "eq", "!=": "ne", ">=": "ge", ">": "gt", "<=": "le", "<": "lt"}
 SUMS, PRODUCTS = {"+": "add", "-": "sub"}, {"*": "mul", "/": "div"}
 END = "end"
+MOST_LEVELS = 1_200  # of brackets
 Part = TypeVar("Part")
 
 
 class Wrong(Exception):
-    """The text is none of its kind from this byte on."""
+    """The text is none of its kind from this byte on, and why: `byte`, `literal`, `nesting`, `syntax` or `shape`, or, of the whole text, `size` or
+    `depth`."""
 
-    def __init__(self, byte: int) -> None:
-        super().__init__(f"no text goes on at byte {byte}")
-        self.byte = byte
+    def __init__(self, byte: int, why: str = "syntax") -> None:
+        super().__init__(f"no text goes on at byte {byte}: {why}")
+        self.byte, self.why = byte, why
 
 
 class Token(NamedTuple):
@@ -63,23 +66,40 @@ def tokens(text: str) -> list[Token]:
     at = 0
     while at < len(text):
         here = TOKEN.match(text, at)
-        if here is None:
-            raise Wrong(at)
+        if here is None or here[0] == "/" and text.startswith("/*", at):
+            raise Wrong(at, "byte")
         kind, said = here.lastgroup or "", here[0]
         if kind == "word" and said in ("true", "false"):
             kind = "mark"
         if kind != "blank":
             found.append(Token(kind, said, at))
         at += len(said)
+    look_at_limits(found)
     return [*found, Token(END, "", len(text))]
+
+
+def look_at_limits(found: Sequence[Token]) -> None:
+    """Refuses a literal with too many digits, and else a bracket that opens one level too many."""
+    for token in found:
+        if token.kind == "number" and len(token.text.replace(".", "")) > MOST_DIGITS:
+            raise Wrong(token.byte, "literal")
+    level = 0
+    for token in found:
+        if token.text in ("(", "[", "{"):
+            if level == MOST_LEVELS:
+                raise Wrong(token.byte, "nesting")
+            level += 1
+        elif token.text in (")", "]", "}"):
+            level = max(0, level - 1)
 
 
 class Reader:
     """Reads a text from front to end, into these trees."""
 
-    def __init__(self, text: str, trees: Trees) -> None:
-        self.tokens, self.at, self.make = tokens(text), 0, trees.make
+    def __init__(self, text: str, trees: Trees, has_dots: bool = False) -> None:
+        self.tokens, self.at, self.make, self.has_dots = tokens(text), 0, trees.make, has_dots
         self.notes: list[Note] = []
+        self.shapes: list[int] = []
 
     # Tokens
 
@@ -124,7 +144,15 @@ class Reader:
         found = part()
         if self.tokens[self.at].kind != END:
             self.stop()
+        if self.shapes:
+            raise Wrong(min(self.shapes), "shape")
         return found
+
+    def small(self, tree: Tree) -> Tree:
+        """A tree, which must be within the limits."""
+        if tree.size > MOST_NODES or tree.depth > MOST_DEPTH:
+            raise Wrong(self.tokens[-1].byte, "size" if tree.size > MOST_NODES else "depth")
+        return tree
 
     def listed(self, part: Callable[[], Part]) -> list[Part]:
         """One or more parts with commas between."""
@@ -142,6 +170,11 @@ class Reader:
     def term(self) -> Tree:
         """A term."""
         return self.must(self.sum(), TERM)
+
+    def formula_or_term(self) -> Tree:
+        """A formula, or what is a term alone."""
+        found = self.either()
+        return self.must(found, TERM if found.formula is None else FORMULA)
 
     def must(self, either: Either, sort: str) -> Tree:
         """What the text is of this sort, which it must be."""
@@ -161,8 +194,9 @@ class Reader:
     def right_side(self, word: str, mark: str, part: Callable[[], Either]) -> Either:
         """Parts with an operator between that groups to the right."""
         parts = [part()]
-        while self.take(mark):
+        while self.sees(mark):
             self.must(parts[-1], FORMULA)
+            self.next()
             parts.append(part())
         if len(parts) == 1:
             return parts[0]
@@ -197,7 +231,7 @@ class Reader:
     def comparison(self) -> Either:
         """A comparison, a formula without an operator in front, or a term."""
         for word, text in (("true", "true"), ("false", "false"), ("hole", "_")):
-            if self.take(text):
+            if (word != "hole" or self.has_dots) and self.take(text):
                 return Either(None, self.make(word))
         left = self.sum()
         comparison = COMPARISONS.get(self.tokens[self.at].text)
@@ -249,10 +283,15 @@ class Reader:
         token = self.tokens[self.at]
         if token.kind == "number":
             return Either(self.make("num", canonical(self.next())), None)
-        if token.kind == "dot":
+        if token.kind == "dot" and self.has_dots:
             return Either(self.make("dot", self.next()[2:]), None)
         if token.kind == "word":
-            return self.named(self.next())
+            begin = len(self.shapes)
+            self.shapes.append(token.byte)
+            found, count = self.named(self.next())
+            if count <= MOST_ARGUMENTS:
+                del self.shapes[begin]
+            return found
         self.need("(")
         found = self.either()
         self.need(")")
@@ -260,25 +299,25 @@ class Reader:
             return found
         return Either(*(kid and self.make(word, "", kid) for word, kid in (("diff", found.term), ("difff", found.formula))))
 
-    def named(self, name: str) -> Either:
-        """A variable or a symbol with its arguments, behind its name."""
+    def named(self, name: str) -> tuple[Either, int]:
+        """A variable or a symbol, behind its name, and how many arguments it has."""
         if self.take("'"):
-            return Either(self.make("var", f"{name}'"), None)
+            return Either(self.make("var", f"{name}'"), None), 0
         if self.take("(||)"):
-            return Either(self.make("ufun", name), self.make("upred", name))
+            return Either(self.make("ufun", name), self.make("upred", name)), 0
         if self.take("(|"):
             detail = f"{name}|{self.name()}|"
             self.need("|)")
-            return Either(self.make("ufun", detail), self.make("upred", detail))
+            return Either(self.make("ufun", detail), self.make("upred", detail)), 0
         if self.take("{"):
             inside = self.formula()
             self.need("}")
-            return Either(None, self.make("quant", name, inside))
+            return Either(None, self.make("quant", name, inside)), 0
         if not self.take("("):
-            return Either(self.make("var", name), None)
+            return Either(self.make("var", name), None), 0
         terms = [] if self.sees(")") else self.listed(self.term)
         self.need(")")
-        return Either(self.make("app", name, *terms), self.make("holds", name, *terms))
+        return Either(self.make("app", name, *terms), self.make("holds", name, *terms)), len(terms)
 
     # Programs
 
@@ -347,6 +386,7 @@ class Reader:
 
     def system(self) -> Tree:
         """A system in braces."""
+        begin = self.tokens[self.at].byte
         self.need("{")
         items, terms = [], []
         for item, term in self.listed(self.item):
@@ -354,6 +394,9 @@ class Reader:
             terms += term
         domain = self.formula() if self.take("&") else self.make("true")
         self.need("}")
+        evolved = [item for item in items if evolves(item)]
+        if len(items) > MOST_ITEMS or len(set(evolved)) < len(evolved):
+            self.shapes.append(begin)
         return self.make("system", ",".join(items), *terms, domain)
 
     def item(self) -> tuple[str, list[Tree]]:
@@ -430,34 +473,35 @@ class Reader:
 
 def formula(text: str, trees: Trees) -> Tree:
     """The tree of a formula."""
-    reader = Reader(text, trees)
-    return reader.whole(reader.formula)
+    return model(text, trees)[0]
 
 
 def model(text: str, trees: Trees) -> tuple[Tree, list[Note]]:
     """The tree of a model, and its annotations in the order in which their ends stand."""
     reader = Reader(text, trees)
-    return reader.whole(reader.formula), reader.notes
+    return reader.small(reader.whole(reader.formula)), reader.notes
 
 
 def sequent(text: str, trees: Trees) -> tuple[list[Tree], list[Tree]]:
     """The trees on the two sides of a sequent."""
     reader = Reader(text, trees)
-    return reader.whole(reader.sequent)
+    left, right = reader.whole(reader.sequent)
+    return [*map(reader.small, left)], [*map(reader.small, right)]
 
 
 def pairs(text: str, trees: Trees) -> list[tuple[str, Tree]]:
     """The pairs of a substitution."""
-    reader = Reader(text, trees)
-    return reader.whole(reader.pairs)
+    reader = Reader(text, trees, has_dots=True)
+    return [(symbol, reader.small(tree)) for symbol, tree in reader.whole(reader.pairs)]
 
 
 def expression(text: str, trees: Trees) -> Tree:
-    """The tree of a formula, a program or a term; what is a formula and a term is taken as the formula."""
-    reader = Reader(text, trees)
-    try:
-        found = reader.whole(reader.either)
-        return reader.must(found, TERM if found.formula is None else FORMULA)
-    except Wrong:
-        reader = Reader(text, trees)
-        return reader.whole(reader.program)
+    """The tree of a formula, a program or a term, with argument dots and `_`; what is a formula and a term is taken as the formula."""
+    faults = []
+    for read in (Reader.formula_or_term, Reader.program):
+        reader = Reader(text, trees, has_dots=True)
+        try:
+            return reader.small(reader.whole(lambda: read(reader)))
+        except Wrong as fault:
+            faults.append(fault)
+    raise max(faults, key=lambda fault: fault.byte if fault.why == "syntax" else len(text) + 1)

@@ -228,14 +228,15 @@ class Work:
 
     def ask(self) -> None:
         """Asks the guard and the solvers. Each leaf is told as it is answered."""
-        with ThreadPoolExecutor(1) as pool, Solvers(seconds=self.options.seconds, waits_for_all=self.options.waits_for_all) as solvers:
+        with ThreadPoolExecutor(2) as pool, Solvers(seconds=self.options.seconds, waits_for_all=self.options.waits_for_all) as solvers:
             guard = pool.submit(answer, self.program, "guard", self.model, self.term)
+            assumptions = pool.submit(lambda: [*hints.of_assumptions(self.program, self.model_source.data, solvers)])
             for leaf in self.asked_leaves(solvers):
                 self.leaves.append(leaf)
                 self.tell(leaf)
             self.guard = self.guarded(guard.result())
             self.tell(self.guard)
-            for hint in hints.of_assumptions(self.program, self.model_source.data, solvers):
+            for hint in assumptions.result():
                 self.add(self.model_source, hint)
 
     def asked_leaves(self, solvers: Solvers) -> Iterator[Leaf]:

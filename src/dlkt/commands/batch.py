@@ -30,6 +30,7 @@ import argparse
 import contextlib
 import importlib
 import json
+import logging
 import os
 import signal
 import subprocess
@@ -240,16 +241,19 @@ def task(name: str, files: Mapping[str, bytes], program: str, limit: int) -> Row
         return unknown(name, str(why))
 
 
-def rows_by_dask(proofs: Sequence[Named], options: argparse.Namespace) -> Iterator[Row]:
-    """The lines of all proofs, in their order, as the workers of a scheduler find them. What a worker had that is lost is done again."""
+def client_of(address: str) -> Any:
+    """What speaks with a scheduler. It comes before anything is printed: where the package is missing, the command may begin anew."""
+    distributed = importlib.import_module("distributed")
+    for name in ("distributed", "distributed.client"):  # that a worker is lost, and its tasks are done again, is no complaint
+        logging.getLogger(name).setLevel(logging.ERROR)
     try:
-        distributed = importlib.import_module("distributed")
-    except ImportError as fault:
-        raise Refused("--dask wants Dask's scheduler: apt-get install python3-distributed") from fault
-    try:
-        client = distributed.Client(options.dask, timeout=f"{PATIENCE}s", set_as_default=False)
+        return distributed.Client(address, timeout=f"{PATIENCE}s", set_as_default=False)
     except (OSError, ValueError) as fault:
-        raise Refused(f"no Dask scheduler answers at {options.dask}") from fault
+        raise Refused(f"no Dask scheduler answers at {address}") from fault
+
+
+def rows_by_dask(client: Any, proofs: Sequence[Named], options: argparse.Namespace) -> Iterator[Row]:
+    """The lines of all proofs, in their order, as the workers of a scheduler find them. What a worker had that is lost is done again."""
     with client:
         tasks = []
         for name, folder in proofs:
@@ -372,7 +376,7 @@ def run(options: argparse.Namespace) -> int:
     proofs = proofs_below(options.folders, options.search)
     if not options.dask and not there():
         print("dlkt batch: no solver is there, so no leaf is asked: install z3 or cvc5", file=sys.stderr)
-    rows = rows_by_dask(proofs, options) if options.dask else Crew(options).rows(proofs)
+    rows = rows_by_dask(client_of(options.dask), proofs, options) if options.dask else Crew(options).rows(proofs)
     told = list(rows) if options.json else print_table(rows)
     changed = changes(before, told) if before is not None else []
     if options.json:

@@ -27,6 +27,7 @@ python3-prompt-toolkit), and completes with Tab: words of strategies, and names 
 """
 
 import argparse
+import importlib.resources
 import json
 import re
 import sys
@@ -43,7 +44,7 @@ from dlkt.session import APPLY, Failure, Proof, as_typed, changes
 from dlkt.solvers import Solvers
 from dlkt.trees import text
 
-NAMES = Path(__file__).resolve().parent.parent / "names.json"
+NAMES = importlib.resources.files("dlkt") / "names.json"
 COMMANDS = ("apply", "undo", "goals", "suggest", "leaves", "paths", "history", "save", "help", "quit")
 GOES_ON = (";", ",", "|", "<")
 PARTS = re.compile(r'"[^"]*"?|/\*.*?(?:\*/|$)|[()]', re.DOTALL)

@@ -20,6 +20,7 @@ as dots. The page has each formula once, as a term of version 2 has it, and make
 """
 import argparse
 import html
+import importlib.resources
 import json
 import pathlib
 import re
@@ -34,7 +35,7 @@ from dlkt.terms import Numbering, Step, Term, read, trees_in
 from dlkt.trees import BRACKETS, PROGRAM, ROWS, Tree, Trees, text
 from dlkt.words import Run, word_runs
 
-PAGES = pathlib.Path(__file__).resolve().parent.parent / "pages"
+PAGES = importlib.resources.files("dlkt") / "pages"
 
 # The premise of each axiomatic rule over its symbols.
 AXIOMATIC = {

@@ -21,6 +21,9 @@ Printed are, line by line:
     verified: ..                            last: `verified` where the proof is closed and guarded, and each leaf is valid by a solver
                                             and false by none, with what it rests on; else `not verified`, and why
 
+`dlkt verify ARCHIVE [--entry NAME]` reads an archive of KeYmaera X (docs/KEYMAERAX.md): it prints the model of each entry, proves it by its tactics,
+else by the search, and ends with a verdict a line for each entry. The exit status is the worst of them.
+
 --json prints one object in place of this, --watch does it again at each change of FILE or PROOF, until control-C.
 
 The exit status is
@@ -42,6 +45,7 @@ import time
 from pathlib import Path
 from typing import Any, Callable, Sequence
 
+from dlkt.archive import is_archive, want_lark
 from dlkt.leaves import NOT_ASKED, POWER, WAY_OUT, listed
 from dlkt.program import TERM_BEGINS, Refused, count, numbered, one_line, program_of, put_at, read_bytes, refuse_bad_output, seconds, shown
 from dlkt.verdict import NOTHING_KNOWN, OPEN, Fault, Guard, Kind, Leaf, Maker, Options, Piece, Proof, Source, Spot, Verdict, counted, is_said_of, verdict_on
@@ -49,6 +53,7 @@ from dlkt.verdict import NOTHING_KNOWN, OPEN, Fault, Guard, Kind, Leaf, Maker, O
 MOST_SHOWN = 4  # goals on which a word fails
 LONGEST = 160  # letters of a line that are shown
 PAUSE = 0.3  # seconds between two looks at the files
+SEARCH_SECONDS = 60  # for each search, of an archive's entry
 
 WHY = {
     "NoMatch": "no axiom fits what stands at the place, or not this one",
@@ -294,6 +299,8 @@ def not_found(options: argparse.Namespace, reasons: Sequence[str]) -> int:
 
 def once(options: argparse.Namespace) -> int:
     """One verdict, printed. The exit status."""
+    if options.proof is None and is_archive(options.file, source_of(options.file).data):
+        return on_archive(options)
     say: Callable[[Piece], None] = (lambda piece: None) if options.json else (lambda piece: say_lines(lines_of(piece)))
     model, settings, proof = source_of(options.file), options_of(options), proof_of(options)
     if not isinstance(proof, Source):
@@ -305,6 +312,23 @@ def once(options: argparse.Namespace) -> int:
     else:
         say_lines([last_line(verdict)])
     return verdict.status
+
+
+def on_archive(options: argparse.Namespace) -> int:
+    """The verdicts on the entries of an archive, printed. The exit status."""
+    if options.output is not None:
+        raise Refused("the entries of an archive have no TERM: dlkt import --prove writes their strategies")
+    want_lark()
+    from dlkt.archive import proving, verifying  # they need the package lark
+
+    limits = proving.Limits(program_of(options.dlk), SEARCH_SECONDS, options.seconds)
+    found = verifying.verdicts_on(options.file, options.entry, limits, (lambda lines: None) if options.json else say_lines)
+    if options.json:
+        told = [(one, {"entry": one.name, "status": one.status, "said": one.line}) for one in found]
+        print(json.dumps([{**object, "verdict": as_object(one.verdict, None) if one.verdict else None} for one, object in told]), flush=True)
+    else:
+        say_lines([one.line for one in found])
+    return verifying.worst(found)
 
 
 def stamp(name: str) -> tuple[int, ...] | None:
@@ -354,8 +378,9 @@ EXAMPLE = "dlkt verify examples/tutorial/car/model examples/tutorial/car/strateg
 
 def add_words(parser: argparse.ArgumentParser) -> None:
     """The words of the command."""
-    parser.add_argument("file", metavar="FILE", help="a model")
-    parser.add_argument("proof", metavar="PROOF", nargs="?", help="a strategy, a sketch, or a term; else one is searched for")
+    parser.add_argument("file", metavar="FILE", help="a model, or an archive of KeYmaera X")
+    parser.add_argument("proof", metavar="PROOF", nargs="?", help="a strategy, a sketch, or a term; else one is searched for; none for an archive")
+    parser.add_argument("--entry", metavar="NAME", help="of an archive, this entry alone")
     parser.add_argument("-o", "--output", metavar="TERM", help="where to put the term")
     parser.add_argument("-j", dest="jobs", type=count, default=os.cpu_count() or 1, metavar="N", help="so many leaves at a time")
     parser.add_argument("--all-solvers", action="store_true", help="wait for each solver, and print what it says")
