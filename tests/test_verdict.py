@@ -241,7 +241,7 @@ class Given(Verdict):
 
     def test_no_proof(self):
         run = self.tool("verify", self.file("model", INCREMENT))
-        self.assertEqual((run.returncode, run.stderr), (4, "dlkt verify: no PROOF is named: a strategy, or a term\n"))
+        self.assertEqual((run.returncode, run.stderr), (4, "dlkt verify: the search needs the solver z3, which isn't there: apt-get install z3\n"))
 
 
 @needs_program
@@ -272,8 +272,11 @@ class Mended(Verdict):
     def test_what_people_write(self):
         self.assertIn("strategy:1:17: hint: a `;` stands between two parts", self.said(INCREMENT, "implyR(1); close; "))
         self.assertIn("strategy:1:12: hint: a strategy has no comments with //", self.said(INCREMENT, "implyR(1); // close\nclose"))
-        self.assertIn("strategy:1:1: hint: there is no word auto; the command `dlkt auto MODEL`", self.said(INCREMENT, "auto"))
         self.assertNotIn("hint", self.said(INCREMENT, 'implyR(1); cut("x>=0 /* ; ) */"); <(nil, nil)'))
+
+    def test_the_word_auto_makes_a_sketch(self):
+        run = self.tool("verify", self.file("model", INCREMENT), self.file("strategy", "auto"))
+        self.assertEqual((run.returncode, run.stderr), (4, "dlkt verify: the search needs the solver z3, which isn't there: apt-get install z3\n"))
 
     def test_a_variable_beside_a_constant(self):
         said = self.said("M>0&M()>0&Amax>0&amax()>0 -> [x:=M;]x>=0\n", "implyR(1)")

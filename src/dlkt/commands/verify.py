@@ -396,7 +396,7 @@ EXAMPLE = "dlkt verify examples/tutorial/car/model examples/tutorial/car/strateg
 def add_words(parser: argparse.ArgumentParser) -> None:
     """The words of the command."""
     parser.add_argument("file", metavar="FILE", help="a model, or an archive of KeYmaera X")
-    parser.add_argument("proof", metavar="PROOF", nargs="?", help="a strategy, a sketch, or a term; else one is searched for")
+    parser.add_argument("proof", metavar="PROOF", nargs="?", help="a strategy, a sketch, or a term; else one is searched for; none for an archive")
     parser.add_argument("--entry", metavar="NAME", help="of an archive, this entry alone")
     parser.add_argument("-o", "--output", metavar="TERM", help="where to put the term")
     parser.add_argument("--page", metavar="OUT.html", help="write a page of the proof, to hand on")
