@@ -116,9 +116,11 @@ class Campaign:
                 disagrees = False
 
     def agrees(self, left: Sequence[Instance], said: str) -> bool:
-        """Whether the guard says of all that are merged what its twin says."""
-        reason = TWIN.says(left[0])
-        return said == "guarded" if reason == "" else said.split(": ")[-1].split(" ")[0] in (reason, "raw-fact")
+        """Whether the guard says of all that are merged what its twin says: it names first the lines that are refused by themselves, which stand
+        before all merges, and then the first merge."""
+        reasons = [TWIN.says(instance) for instance in left]
+        reason = next((one for one in reasons if one in ("dforall", "differential-context")), reasons[0])
+        return said == "guarded" if reason == "" else said.split(": ")[-1].split(" ")[0] == reason
 
     def judged_alone(self, instance: Instance, rng: random.Random) -> Kept:
         """What the semantics says of an instance, and the guard where it is invalid."""

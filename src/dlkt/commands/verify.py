@@ -49,7 +49,8 @@ from typing import TYPE_CHECKING, Any, Callable, Sequence
 from dlkt.archive import is_archive
 from dlkt.leaves import NOT_ASKED, POWER, WAY_OUT, listed
 from dlkt.program import TERM_BEGINS, Refused, count, numbered, one_line, program_of, put_at, read_bytes, refuse_bad_output, seconds, shown
-from dlkt.verdict import NOTHING_KNOWN, OPEN, REFUTED, Fault, Guard, Kind, Leaf, Maker, Options, Piece, Proof, Source, Spot, Verdict, counted, is_said_of, verdict_on
+from dlkt.verdict import NOTHING_KNOWN, OPEN, REFUTED, Fault, Guard, Kind, Leaf, Maker, Options, Piece, Proof, Source, Spot, Verdict
+from dlkt.verdict import counted, is_said_of, verdict_on
 
 if TYPE_CHECKING:
     from dlkt.search.proofs import NotFound
