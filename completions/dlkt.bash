@@ -8,13 +8,13 @@ _dlkt() {
     return
   fi
   case ${COMP_WORDS[1]} in
-    verify) options='-h --help --entry -o --output -j --all-solvers --seconds --json --watch --dlk' ;;
+    verify) options='-h --help --entry -o --output --page -j --all-solvers --seconds --json --watch --dlk' ;;
     auto) options='-h --help -o --output --sketch --term --partial --explain --seconds --annotations --dlk' ;;
     refute) options='-h --help --rounds --seconds --json --plot --seed' ;;
     import) options='-h --help -d --folder --entry --print --check --prove --seconds --dlk' ;;
-    batch) options='-h --help -j --dask --against --seconds --json --dlk' ;;
+    batch) options='-h --help -j --search --dask --against --seconds --json --dlk' ;;
     leaves) options='-h --help --all-solvers -j --seconds --json --dlk' ;;
-    page) options='-h --help -o --output --title --seconds --dlk' ;;
+    page) options='-h --help -o --output --title --seconds -j --dlk' ;;
     tree) options='-h --help --model --strategy --depth --dlk' ;;
     prompt) options='-h --help --seconds --dlk' ;;
     print) options='-h --help --width' ;;
