@@ -66,9 +66,9 @@ CHECKS = [
     script("dev/examples.py models"),
     script("bench/limits.py", seconds=300),
     script("bench/soundness.py --seconds 120", f"{IMPORT}z3", seconds=300),
-    script("tests/archive_property.py --mutants --fuzz 1000", f"{IMPORT}lark", seconds=900),
-    Check("mypy", ("mypy",), ("mypy",), 400),
-    Check("flake8", (PYTHON, "-m", "flake8", "src", "dev"), (f"{IMPORT}flake8",), 300),
+    script("tests/archive_property.py --mutants --fuzz 1000", f"{IMPORT}lark", seconds=450),
+    Check("mypy", ("mypy",), ("mypy",), 300),
+    Check("flake8", (PYTHON, "-m", "flake8", "src", "dev"), (f"{IMPORT}flake8",), 150),
     script("dev/definitions.py --check"),
     script("dev/editors.py"),
     script("dev/edits.py --look"),
@@ -148,7 +148,7 @@ class Runs:
             return Come(check, "skipped", f"there is no {lacks.replace('|', ' or ')}")
         packages = [it.removeprefix(IMPORT) for it in check.needs if it.startswith(IMPORT)] or list(PACKAGES)
         words = [python_for(packages) if word == PYTHON else word for word in check.command]
-        folder = ROOT / "tests" if check.name.startswith("tests/") else ROOT
+        folder = ROOT / "tests" if check.name.startswith("tests/test_") else ROOT
         log, began = self.log_of(check), time.monotonic()
         environment = {**os.environ, "DLK": PROGRAM, "PYTHONDONTWRITEBYTECODE": "1"}
         with open(log, "wb") as said:

@@ -250,7 +250,6 @@ class Verify(helping.Case):
 
     def test_no_term_of_an_archive(self):
         self.assertEqual(self.tool("verify", self.file("a.kyx", SIMPLE), "-o", "term").returncode, 4)
-        self.assertEqual(self.tool("verify", self.file("model", "x>0 -> x>0\n")).returncode, 4)
 
 
 if __name__ == "__main__":
