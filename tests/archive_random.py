@@ -98,12 +98,13 @@ class Maker:
         return kind, self.formula(depth - 1), self.formula(depth - 1)
 
     def annotated(self):
-        """A modality over a loop with an annotation that reads what is changed before it, too."""
+        """A modality over a loop with an annotation that reads what is changed before it, too, or over two ways of which one changes a name."""
         name = self.rng.choice([one for one in VARIABLES if one not in self.arguments])
         body = ";", (":=", name, self.term(2)), self.program(0)
         note = "cmp", self.rng.choice(["<", "<=", ">", ">="]), ("name", name), self.term(1)
         before, behind = (":=", name, self.term(1)), ("cmp", self.rng.choice(["<", ">="]), ("name", name), ("name", self.rng.choice(self.arguments)))
-        return self.rng.choice(["box", "dia"]), (";", before, ("loop", body, note)), behind
+        program = (";", before, ("loop", body, note)) if self.rng.random() < .6 else ("++", before, ("?", self.formula(0)))
+        return self.rng.choice(["box", "dia"]), program, behind
 
     def quantified(self, kind, depth):
         """A formula below a quantifier, which may hide an argument."""
