@@ -77,7 +77,7 @@ class Maker:
         """A formula."""
         calls = self.calls("Bool")
         if depth > 1 and self.arguments and self.rng.random() < .3:
-            return self.annotated(depth)
+            return self.annotated()
         if depth <= 0 or self.rng.random() < .1:
             if calls and self.rng.random() < .5:
                 return self.call(calls, 1)
@@ -97,12 +97,14 @@ class Maker:
             return kind, self.program(depth - 1), self.formula(depth - 1)
         return kind, self.formula(depth - 1), self.formula(depth - 1)
 
-    def annotated(self, depth):
-        """A modality over a loop with an annotation that reads what the loop changes."""
+    def annotated(self):
+        """A modality over a loop with an annotation that reads what is changed before it, too, or over two ways of which one changes a name."""
         name = self.rng.choice([one for one in VARIABLES if one not in self.arguments])
         body = ";", (":=", name, self.term(2)), self.program(0)
         note = "cmp", self.rng.choice(["<", "<=", ">", ">="]), ("name", name), self.term(1)
-        return self.rng.choice(["box", "dia"]), ("loop", body, note), self.formula(depth - 1)
+        before, behind = (":=", name, self.term(1)), ("cmp", self.rng.choice(["<", ">="]), ("name", name), ("name", self.rng.choice(self.arguments)))
+        program = (";", before, ("loop", body, note)) if self.rng.random() < .6 else ("++", before, ("?", self.formula(0)))
+        return self.rng.choice(["box", "dia"]), program, behind
 
     def quantified(self, kind, depth):
         """A formula below a quantifier, which may hide an argument."""
