@@ -32,7 +32,6 @@ import json
 import re
 import sys
 import tempfile
-from pathlib import Path
 from typing import Callable, Iterable, Sequence
 
 from dlkt.layout import laid_out_goal
