@@ -79,7 +79,7 @@ class Grown:
 
 def read_back(said, sort, trees):
     """The tree of a text, and its annotations."""
-    again = reader.Reader(said, trees)
+    again = reader.Reader(said, trees, has_dots=True)
     part = {TERM: again.term, FORMULA: again.formula, PROGRAM: again.program}[sort]
     return again.whole(part), again.notes
 

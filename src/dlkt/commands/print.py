@@ -164,7 +164,7 @@ def printed_model(text: str, width: int) -> str:
             tree, notes = reader.expression(text, trees), []
         except reader.Wrong as fault:
             raise max(formula_fault, fault, key=lambda one: one.byte) from None
-        again = reader.Reader(text, trees)
+        again = reader.Reader(text, trees, has_dots=True)
         if tree.sort == "program":
             again.whole(again.program)
             notes = again.notes
