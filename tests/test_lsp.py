@@ -138,6 +138,14 @@ class Spoken(Case):
         found = self.client.marks(uri, bool)
         self.assertEqual(found[0]["range"]["start"], {"line": 0, "character": 7})
 
+    @unittest.skipUnless(importlib.util.find_spec("z3"), "python3-z3 isn't there")
+    def test_a_model_that_a_run_breaks(self):
+        uri = self.opened("b.dlkmodel", "x>=0 -> [x:=x-1;]x>=0\n", "dlkmodel")
+        found = self.client.marks(uri, bool)
+        self.assertIn("refuted, by this run:", found[0]["message"])
+        said = self.client.ask("textDocument/codeLens", textDocument={"uri": uri})["result"]
+        self.assertIn("refuted: a run breaks it", said[0]["command"]["title"])
+
     def test_changes(self):
         uri = self.opened("a.dlkstrategy", "implyR(1);\nandR(1)\n")
         self.client.marks(uri, bool)

@@ -18,12 +18,15 @@ from dlkt.lsp.texts import Json, letter_of_byte, range_of, word_at
 from dlkt.program import Answer, Refusal, Refused, answer, complaint_of, goals_in, has_report, printed_report, program_of, refusal_in
 from dlkt.search.finding import Options, expand_sketch
 from dlkt.search.sketches import is_sketch
+from dlkt.semantics.apart import Apart
 from dlkt.solvers import Solvers, Word
 from dlkt.terms import readable
 from dlkt.trees import Trees
 from dlkt.words import lines_of, runs_in, words_of_lines
 
 MOST_GOALS = 3  # goals that a mark tells
+RUN_SECONDS, RUN_ROUNDS = 5, 3  # for a run that breaks a model
+LOOK = 0.3  # seconds between two looks at whether there is one
 SKETCH_SECONDS = 20.0  # for what stands in the place of `auto`
 
 
@@ -96,7 +99,7 @@ class Judgement:
     def of(self, document: Document, documents: Documents) -> Iterator[Found]:
         """What there is to say of a text, step by step."""
         if document.kind == Kind.MODEL:
-            yield self.of_model(document)
+            yield from self.of_model(document)
         elif document.kind == Kind.STRATEGY:
             yield from self.of_strategy(document, documents)
         elif document.kind == Kind.SCRIPT:
@@ -106,20 +109,34 @@ class Judgement:
 
     # Models
 
-    def of_model(self, document: Document) -> Found:
-        """Whether a model can be read, and the hints on it."""
+    def of_model(self, document: Document) -> Iterator[Found]:
+        """Whether a model can be read, the hints on it, and a run that breaks it, which is looked for in a process of its own. What is known stays
+        the same meanwhile, and is given again and again, so that whoever asks can stop."""
         with tempfile.TemporaryDirectory() as folder:
             model = Path(folder) / "model"
             model.write_text(document.text, encoding="utf-8")
             said = answer(self.program, "print", model)
-            if said.status == 0 and not said.text.startswith("refused"):
+            if said.status == 0:
                 found = hints.hints(self.program, model, hints.Files(model.read_bytes(), None, None), True)
                 marks = [mark_at(document, it.byte, "information", it.text) for it in found if it.file == "model"]
-                return Found(self.sort_of(document.text), marks)
+                known = Found(self.sort_of(document.text), marks)
+                yield known
+                yield from self.of_run(document, model, known)
+                return
         refusal = refusal_in(said.text)
         text = said.text.strip() or complaint_of(said)
         byte = refusal.byte if refusal else 0
-        return Found("this is no formula", [mark_at(document, byte, "error", f"{text}: no formula goes on like this here")])
+        yield Found("this is no formula", [mark_at(document, byte, "error", f"{text}: no formula goes on like this here")])
+
+    def of_run(self, document: Document, model: Path, known: Found) -> Iterator[Found]:
+        """What is known of a model, and then the run that breaks it, where one is found."""
+        with Apart(model, RUN_SECONDS, RUN_ROUNDS) as search:
+            while (told := search.answer(LOOK)) is None:
+                yield known
+        run = told.get("run")
+        if run:
+            text = "\n".join([f"{told['status']}, by this run:", *run["lines"]])
+            yield Found(f"{told['status']}: a run breaks it (the mark at the first line)", [*known.marks, mark_at(document, 0, "error", text)])
 
     def sort_of(self, text: str) -> str:
         """What a model says in short: its annotations are counted."""

@@ -106,12 +106,14 @@ class Judge:
             document = self.documents.get(uri)
             if document is None or len(document.text) > MOST_LETTERS:
                 continue
-            version = document.version
+            version, before = document.version, None
             try:
                 for found in self.judgement.of(document, self.documents):
                     if self._is_old(uri, version):
                         break
-                    self.told(document, version, found)
+                    if found is not before:
+                        self.told(document, version, found)
+                    before = found
             except Exception:  # a fault of the server is told in its log, and the editor goes on
                 logging.exception("judging %s", uri)
 
