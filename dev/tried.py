@@ -7,6 +7,9 @@ A row of the file has a crate, how many wrong bodies it has, the day on which al
 `src` without tests, `specs` and `proofs`, and the wrong bodies of `must-fail` and `edits`, whichever of the two folders one stands in.
 `dev/edits.py NAME` writes the row of a crate when it has tried all of them and each was refused, and nothing else writes it. What a crate stands on
 has rows of its own.
+
+By hand a row may say `owed` in the place of the day: the crate was landed with its change before its wrong bodies were tried again. Such a crate is
+named each time, and where it changes once more, it fails as any other.
 """
 
 import argparse
@@ -20,6 +23,7 @@ TOP = Path(__file__).resolve().parent.parent
 FILE = TOP / "dev" / "tried.txt"
 PARTS = ("src", "specs", "proofs")
 FOLDERS = ("must-fail", "edits")
+OWED = "owed"
 HEAD = "# crate, wrong bodies, day on which all were refused, sum of the crate then: written by dev/edits.py, read by dev/tried.py"
 
 
@@ -82,6 +86,12 @@ def put(new: list[Row], file: Path = FILE) -> None:
     fresh.replace(file)
 
 
+def owed(top: Path = TOP, file: Path = FILE) -> list[str]:
+    """The crates of which it is said that their wrong bodies are yet to be tried as they are now."""
+    known = rows(file)
+    return [it.name for it in crates_with_bodies(top) if it.name in known and known[it.name].day == OWED and known[it.name].sum == sum_of(it)]
+
+
 def changed(top: Path = TOP, file: Path = FILE) -> list[str]:
     """The crates whose wrong bodies weren't tried as they are now, each with why."""
     known = rows(file)
@@ -103,8 +113,10 @@ def main() -> int:
         print(f"tried.py: {line}")
     if wrong:
         print(f"tried.py: try them by: python3 dev/edits.py --together {' '.join(it.partition(':')[0] for it in wrong)}")
-    else:
-        print(f"the wrong bodies of {len(crates_with_bodies())} crates, {sum(it.bodies for it in rows().values())} in all, were tried as these are now")
+    for crate in owed():
+        print(f"owed: the wrong bodies of {crate}, by: python3 dev/edits.py --together {crate}")
+    if not wrong:
+        print(f"the wrong bodies of {len(crates_with_bodies())} crates, {sum(it.bodies for it in rows().values())} in all, were tried as these are now, but for those that are owed")
     return 1 if wrong else 0
 
 
