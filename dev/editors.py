@@ -223,7 +223,7 @@ def in_files(usage: str) -> tuple[str, ...]:
 
 def man_usages() -> list[set[str]]:
     """The usages of the man page's synopsis, and those of its list of commands."""
-    brief, _, told = text_of("docs", "dlk.1").partition(".Sh DESCRIPTION")
+    brief, _, told = text_of("man", "dlk.1").partition(".Sh DESCRIPTION")
     synopsis = re.findall(r"^\.Cm (\w+)\n((?:\.Ar \w+\n)*)", brief, re.M)
     items = re.findall(r"^\.It Cm (\w+) Ar (.*)$", told, re.M)
     found = [(verb, re.findall(r"\.Ar (\w+)", words)) for verb, words in synopsis], [(verb, words.split()) for verb, words in items]
@@ -255,8 +255,8 @@ def commands() -> list[tuple[str, set[Any], set[Any]]]:
     return [
         ("docs/FILES.md", wanted, {spans(row[0])[0] for row in rows(text_of("docs", "FILES.md"), "| Usage | What it does |")}),
         ("crates/dlk/src/explain.rt", wanted, usage),
-        ("synopsis of docs/dlk.1", wanted, synopsis),
-        ("docs/dlk.1", wanted, items),
+        ("synopsis of man/dlk.1", wanted, synopsis),
+        ("man/dlk.1", wanted, items),
         ("completions/dlk.bash", {(words[0], len(words) - 1) for words in files}, bash_usages()),
         ("completions/_dlk", files, zsh_usages()),
     ]
@@ -265,7 +265,7 @@ def commands() -> list[tuple[str, set[Any], set[Any]]]:
 def statuses() -> tuple[set[str], set[str]]:
     """The exit statuses of docs/FILES.md, and those of the man page."""
     table = {row[0] for row in rows(text_of("docs", "FILES.md"), "| Status | Cause | Printed |")}
-    told = text_of("docs", "dlk.1").partition(".Sh EXIT STATUS")[2].partition(".Sh ")[0]
+    told = text_of("man", "dlk.1").partition(".Sh EXIT STATUS")[2].partition(".Sh ")[0]
     return table, set(re.findall(r"^\.It (\d+)$", told, re.M))
 
 
@@ -276,7 +276,7 @@ def differences() -> Iterator[str]:
     pairs = [(kind, name, words[kind], found[kind]) for name, found in (("vim", vim()), ("textmate", textmate())) for kind in words]
     pairs += [("axioms of strategies", name, words["axioms"], found) for name, found in second_axioms()]
     pairs += [("commands", *place) for place in commands()]
-    pairs += [("exit statuses", "docs/dlk.1", *statuses())]
+    pairs += [("exit statuses", "man/dlk.1", *statuses())]
     pairs += [("rules that are drawn", "docs/CALCULUS.md", words["rules"], set(drawings())),
               ("words of nodes", "src/dlkt/trees.py", words["words of nodes"], set(trees.ROWS)),
               ("axiomatic rules", "src/dlkt/commands/tree.py", words["axiomatic rules"], set(prooftree.AXIOMATIC)),

@@ -1,7 +1,7 @@
 #!/usr/bin/env python3
 """Writes what lists the commands of dlkt: its man page and its completions, by the parser of the command line.
 
-    python3 dev/manual.py             writes docs/dlkt.1, completions/dlkt.bash and completions/_dlkt
+    python3 dev/manual.py             writes man/dlkt.1, completions/dlkt.bash and completions/_dlkt
     python3 dev/manual.py --check     exits 1 where they, or the table of docs/FILES.md, lack a command or an option, or have one too many
 
 The table of docs/FILES.md has a row a command, which is written by hand.
@@ -176,7 +176,7 @@ fi
 
 def files() -> dict[Path, str]:
     """The files, with what they must have."""
-    return {ROOT / "docs" / "dlkt.1": manual(), ROOT / "completions" / "dlkt.bash": bash(), ROOT / "completions" / "_dlkt": zsh()}
+    return {ROOT / "man" / "dlkt.1": manual(), ROOT / "completions" / "dlkt.bash": bash(), ROOT / "completions" / "_dlkt": zsh()}
 
 
 def table() -> set[str]:

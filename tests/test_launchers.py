@@ -50,7 +50,7 @@ class Launcher(Case):
             (self.top / "crates" / name / "src" / "lib.rt").write_text("fn it() {}\n" * 100)
         (self.top / "crates.txt").write_text("# crates\nlow:\nmiddle: low\naside: low\ndlk: middle\n")
         (self.top / "HANDLES").write_text("Handles allowed: none.\n")
-        for name in ("dlk", "dlkt", "src", "docs/dlk.1", "docs/dlkt.1", "completions", "dev/zipped.py"):
+        for name in ("dlk", "dlkt", "src", "man/dlk.1", "man/dlkt.1", "completions", "dev/zipped.py"):
             (self.top / name).parent.mkdir(parents=True, exist_ok=True)
             copy = shutil.copytree if (ROOT / name).is_dir() else shutil.copy2
             copy(ROOT / name, self.top / name)
