@@ -1,5 +1,6 @@
 """Tests of what can fail the gate besides the proofs: dev/checks.py and dev/tried.py."""
 
+import re
 import subprocess
 import sys
 import tempfile
@@ -62,6 +63,17 @@ class Checks(unittest.TestCase):
             if check.command[0] == checks.PYTHON and check.command[1] != "-m":
                 self.assertTrue((checks.ROOT / check.command[1]).is_file(), check.name)
         self.assertLessEqual(sum(it.seconds for it in checks.CHECKS) / 4, 1200)
+
+
+class Version(unittest.TestCase):
+    """The version stands in the package, and is told by the program's usage and the man page."""
+
+    def test_it_is_the_same_everywhere(self) -> None:
+        top = checks.ROOT
+        found = re.search(r'__version__ = "([0-9.]+)"', (top / "src" / "dlkt" / "__init__.py").read_text(encoding="utf-8"))
+        assert found
+        self.assertIn(f'"dlk {found[1]}: usage', (top / "crates" / "dlk" / "src" / "explain.rt").read_text(encoding="utf-8"))
+        self.assertIn(f'.Os "dlk {found[1]}"', (top / "man" / "dlk.1").read_text(encoding="utf-8"))
 
 
 class Tried(unittest.TestCase):
