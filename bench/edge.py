@@ -98,7 +98,9 @@ def told(status, words, cwd="."):
         names = [os.fsencode(it) for it in words[1:1 + INPUTS.get(words[0], 2)]]
         missed = next(it for it in names if it == b"-" or not is_readable(os.path.join(os.fsencode(cwd), it)))
         return b"dlk: an input could not be read: " + missed + b"\n"
-    return {3: USAGES, 5: cut(words), 6: b"dlk: memory ran out\n"}.get(status, b"")
+    if status == 5:
+        return cut(words)
+    return {3: USAGES, 6: b"dlk: memory ran out\n"}.get(status, b"")
 
 
 def run(words, given=b"", **options):
