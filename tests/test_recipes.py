@@ -5,28 +5,20 @@ import tempfile
 import unittest
 from concurrent.futures import ThreadPoolExecutor
 from pathlib import Path
-from types import SimpleNamespace
-from unittest import mock
 
 from helping import PROGRAM, ROOT, needs_program
-from dlkt.commands import leaves
+from dlkt import solvers
+from dlkt.commands.verify import last_line
 from dlkt.program import CLOSED, Answer, printed_report
-from dlkt.commands.verify import VERIFIED, last_line, verdict_on
+from dlkt.verdict import VERIFIED, Options, Proof, Source, verdict_on
 
 RECIPES = sorted(model.parent for model in ROOT.glob("examples/recipes/*/model"))
 
 
 def verdict(folder):
-    """The verdict on a recipe: its exit status, and its last line."""
-    given = SimpleNamespace(model=str(folder / "model"), strategy=str(folder / "strategy"), term=None, seconds=20, dlk=PROGRAM)
-    told, status = verdict_on(given, lambda lines: None)
-    return status, last_line(told), told
-
-
-def scripts_of(program, model, term, texts):
-    """The script of each leaf. It is asked for each leaf by itself: for all at once the program would replay the term again, as it does for
-    the guard."""
-    return [leaves.exported_alone(program, text) for text in texts]
+    """The verdict on a recipe."""
+    model, strategy = (Source(str(folder / name), (folder / name).read_bytes()) for name in ("model", "strategy"))
+    return verdict_on(model, strategy, Options(PROGRAM, jobs=2))
 
 
 class Recipes(unittest.TestCase):
@@ -42,14 +34,15 @@ class Recipes(unittest.TestCase):
 
     @needs_program
     def test_each_is_verified_and_has_its_report(self):
-        with mock.patch.object(leaves, "scripts_of", scripts_of), ThreadPoolExecutor(4) as pool:
-            for folder, (status, said, told) in zip(RECIPES, pool.map(verdict, RECIPES)):
-                if leaves.solvers_there():
-                    self.assertEqual(status, VERIFIED, f"{folder.name}: {said}")
-                self.assertEqual(told["hints"], [], folder.name)
-                self.assertGreater(len(told["leaves"]), 0, folder.name)
+        with ThreadPoolExecutor(4) as pool:
+            for folder, found in zip(RECIPES, pool.map(verdict, RECIPES)):
+                if solvers.there():
+                    self.assertEqual(found.status, VERIFIED, f"{folder.name}: {last_line(found)}")
+                self.assertEqual(found.hints, [], folder.name)
+                self.assertGreater(len(found.leaves), 0, folder.name)
+                self.assertIsInstance(found.found, Proof)
                 kept = printed_report(Answer(CLOSED, (folder / "report").read_text(), ""))
-                self.assertEqual(([leaf["text"] for leaf in told["leaves"]], told["lines"]), (kept.leaves, kept.lines), folder.name)
+                self.assertEqual(([leaf.text for leaf in found.leaves], found.found.lines), (kept.leaves, kept.lines), folder.name)
 
 
 @needs_program
@@ -67,9 +60,8 @@ class Copied(unittest.TestCase):
             folder = Path(place)
             (folder / "model").write_text(model)
             (folder / "strategy").write_text(strategy)
-            with mock.patch.object(leaves, "scripts_of", scripts_of):
-                status, said, _ = verdict(folder)
-        self.assertEqual(status, VERIFIED, said)
+            found = verdict(folder)
+        self.assertEqual(found.status, VERIFIED, last_line(found))
 
     def test_a_ghost_for_another_decay(self):
         self.adapted("ghost_start", "h > 0 -> [{h' = -a()*h, q' = 1}]h > 0\n", ('"1/2*k()"', '"1/2*a()"'), ("(c-r())*y*y>0", "h*y*y>0"),

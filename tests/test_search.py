@@ -94,10 +94,11 @@ class NotFound(SearchCase):
                 self.assertIn(said, run.stderr)
                 self.assertRegex(run.stderr, r"x ?= ?-?\d")
 
-    def test_verify_says_that_no_proof_is_found(self):
+    def test_verify_says_that_a_run_breaks_the_model(self):
         run = self.tool("verify", self.file("model", "x>0 -> [x:=x-1;]x>0"))
-        self.assertEqual(run.returncode, 1)
-        self.assertIn("not verified: no proof is found", run.stdout)
+        self.assertEqual(run.returncode, 5)
+        self.assertEqual(run.stdout.splitlines()[0], "the model is false, by this run:")
+        self.assertEqual(run.stdout.splitlines()[-1], "refuted: a run breaks the model")
 
     def test_a_partial_strategy_leaves_what_is_not_found(self):
         model = "x>=0 -> [x:=x+1; ++ x:=-1;]x>=0"
