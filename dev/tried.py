@@ -116,7 +116,8 @@ def main() -> int:
     for crate in owed():
         print(f"owed: the wrong bodies of {crate}, by: python3 dev/edits.py --together {crate}")
     if not wrong:
-        print(f"the wrong bodies of {len(crates_with_bodies())} crates, {sum(it.bodies for it in rows().values())} in all, were tried as these are now, but for those that are owed")
+        count = sum(it.bodies for it in rows().values())
+        print(f"the wrong bodies of {len(crates_with_bodies())} crates, {count} in all, were tried as these are now, but for those that are owed")
     return 1 if wrong else 0
 
 
