@@ -14,9 +14,13 @@ def main() -> int:
             os.environ["DLKT_PYTHON"] = SYSTEM
             os.execv(SYSTEM, [SYSTEM, *(["-m", "dlkt"] if sys.argv[0].endswith("__main__.py") else [sys.argv[0]]), *sys.argv[1:]])
         sys.exit("dlkt: it wants Python 3.11 or newer, and %s is %d.%d" % (sys.executable, *sys.version_info[:2]))
-    from dlkt import cli
+    try:
+        from dlkt import cli
 
-    return cli.main(sys.argv[1:])
+        return cli.main(sys.argv[1:])
+    except KeyboardInterrupt:  # before a command began, or behind its end
+        print("dlkt: interrupted", file=sys.stderr)
+        return 130
 
 
 if __name__ == "__main__":
