@@ -14,7 +14,7 @@ from enum import Enum
 from fractions import Fraction
 from typing import Any, Iterable, Mapping, NamedTuple, Sequence, TypeAlias
 
-import z3  # type: ignore[import]
+import z3
 
 Expression: TypeAlias = Any
 MOST_MEMORY = 3_000  # megabytes, behind which z3 stops
