@@ -12,7 +12,7 @@ _dlkt() {
     auto) options='-h --help -o --output --sketch --term --partial --explain --seconds --annotations --dlk' ;;
     refute) options='-h --help --rounds --seconds --json --plot --seed' ;;
     import) options='-h --help -d --folder --entry --print --check --prove --seconds --dlk' ;;
-    batch) options='-h --help -j --search --dask --against --seconds --json --dlk' ;;
+    batch) options='-h --help -j --no-search --dask --against --seconds --json --dlk' ;;
     leaves) options='-h --help --all-solvers -j --seconds --json --dlk' ;;
     page) options='-h --help -o --output --title --seconds -j --dlk' ;;
     tree) options='-h --help --model --strategy --depth --dlk' ;;

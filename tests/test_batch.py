@@ -60,7 +60,8 @@ class Table(Batch):
         run = self.tool("batch", self.proofs)
         rows = self.rows(run.stdout)
         self.assertEqual(run.returncode, 1)
-        self.assertEqual(list(rows), ["deep/proved", "kept", "left", "refused", "wrong term"])
+        self.assertEqual(list(rows), ["deep/proved", "kept", "left", "none", "refused", "wrong term"])
+        self.assertEqual(rows["none"][:4], ("verified", "closed", "guarded", "0/0"))
         self.assertEqual(rows["deep/proved"][:5], ("verified", "closed", "guarded", "1/1", "15"))
         self.assertEqual(rows["kept"][:5], ("verified", "closed", "guarded", "0/0", "3"))
         self.assertEqual(rows["left"][:5], ("not-verified", "open", "guarded", "0/0", "2"))
@@ -68,7 +69,8 @@ class Table(Batch):
         self.assertEqual(rows["wrong term"][:5], ("not-verified", "refused", "-", "-", "-"))
         for line in ("# left: 1 goal left", "# refused: strategy:2:3: WrongShape", "# wrong term: refused: line 3: NoPlace"):
             self.assertIn(f"\n{line}\n", run.stdout)
-        self.assertEqual(run.stdout.splitlines()[-1], "2 of 5 verified")
+        self.assertEqual(run.stdout.splitlines()[-1], "3 of 6 verified")
+        self.assertEqual(list(self.rows(self.tool("batch", self.proofs, "--no-search").stdout)), [name for name in rows if name != "none"])
 
     def test_all_verified_and_what_changed(self):
         self.proof("one", TRIVIAL, CLOSES_TRIVIAL)
@@ -79,7 +81,7 @@ class Table(Batch):
         again = self.tool("batch", self.proofs, "--against", table)
         self.assertEqual((again.returncode, again.stdout.splitlines()[-1]), (0, f"nothing changed since {table}"))
         (self.proofs / "one" / "strategy").write_text("implyR(1)\n")
-        (self.proofs / "two" / "term").unlink()
+        (self.proofs / "two" / "model").unlink()
         self.proof("new", TRIVIAL, CLOSES_TRIVIAL)
         changed = self.tool("batch", self.proofs, "--against", table)
         self.assertEqual(changed.returncode, 1)
@@ -202,7 +204,8 @@ class Refusals(Batch):
         self.proof("one", TRIVIAL, CLOSES_TRIVIAL)
         self.assertEqual(self.refusal("/nowhere/at/all"), "dlkt batch: /nowhere/at/all: no such folder")
         self.assertEqual(self.refusal(self.proofs / "one" / "model"), f"dlkt batch: {self.proofs / 'one' / 'model'}: not a folder")
-        self.assertIn("has a model, and a strategy or a term", self.refusal(self.solvers))
+        self.assertIn(f"no folder below {self.solvers} has a model", self.refusal(self.solvers))
+        self.assertIn("has a model, and a strategy or a term", self.refusal(self.solvers, "--no-search"))
         self.assertIn("holds no table of dlkt batch", self.refusal(self.proofs, "--against", self.proofs / "one" / "model"))
         self.assertIn("no such file", self.refusal(self.proofs, "--against", "/nowhere/at/all"))
         self.assertIn("isn't there", self.refusal(self.proofs, "--dlk", "/nowhere/dlk"))

@@ -1,6 +1,6 @@
 """Says of many proofs which are verified.
 
-    dlkt batch FOLDER.. [-j N] [--search] [--dask ADDRESS] [--against TABLE] [--seconds N] [--json] [--dlk PROGRAM]
+    dlkt batch FOLDER.. [-j N] [--no-search] [--dask ADDRESS] [--against TABLE] [--seconds N] [--json] [--dlk PROGRAM]
 
 A proof is a folder with a `model` and a `strategy` in it, or with a `model` and a `term`; each one below the named folders is looked at,
 also behind a link, N at a time (as many as there are processors). Where a name has what ends a line, an escape stands for it. Of a
@@ -16,8 +16,8 @@ closed, guarded, and all leaves valid by the solvers that are there. A table is 
 `6/6` are the leaves that are valid, and all. Behind a `#` stands why a proof isn't verified. With --against and a table that was printed
 before it is said last what changed since, but for the times. --json prints one object in place of all this.
 
-With --search a folder with a `model` alone counts, too: a strategy is searched for (docs/AUTO.md), for a minute at most. A strategy that is a sketch is
-turned into a plain one.
+A folder with a `model` alone counts, too, but with --no-search or --dask: a strategy is searched for (docs/AUTO.md), for a minute at most.
+A strategy that is a sketch is turned into a plain one.
 
 With --dask the proofs are tasks of a Dask scheduler (Debian's python3-distributed) at this address, each with the bytes of its folder; what a
 worker had that is lost is done again. Workers need this package, the solvers, and the program: that of DLK there, or of the same path as here.
@@ -168,7 +168,7 @@ class Crew:
         """The line of one proof."""
         name, folder = proof
         options = [f"--one={name}", f"--seconds={self.options.seconds}", f"--dlk={self.options.dlk}"]
-        options += ["--search"] if self.options.search else []
+        options += [] if self.options.search else ["--no-search"]
         words = [sys.executable, "-m", "dlkt", "batch", *options, "--", str(folder)]
         pipes: dict[str, Any] = {"stdin": subprocess.DEVNULL, "stdout": subprocess.PIPE, "stderr": subprocess.PIPE}
         with subprocess.Popen(words, start_new_session=True, **pipes) as process:
@@ -353,7 +353,7 @@ def add_words(parser: argparse.ArgumentParser) -> None:
     """The words of the command."""
     parser.add_argument("folders", nargs="+", metavar="FOLDER")
     parser.add_argument("-j", dest="jobs", type=count, default=os.cpu_count() or 1, metavar="N", help="so many at a time")
-    parser.add_argument("--search", action="store_true", help="search for a strategy where a folder has none")
+    parser.add_argument("--no-search", dest="search", action="store_false", help="leave out the folders that have a model alone")
     parser.add_argument("--dask", metavar="ADDRESS", help="hand the proofs to the workers of this Dask scheduler")
     parser.add_argument("--against", metavar="TABLE", help="say what changed since this table was printed")
     parser.add_argument("--seconds", type=seconds, default=20, metavar="N", help="for each leaf and solver (20)")
@@ -371,8 +371,7 @@ def run(options: argparse.Namespace) -> int:
         signal.signal(signal.SIGINT, signal.default_int_handler)
         print(json.dumps(one(options.one, Path(options.folders[0]), options)))
         return 0
-    if options.search and options.dask:
-        raise Refused("--search and --dask don't go together")
+    options.search = options.search and not options.dask
     before = rows_in(options.against) if options.against else None
     proofs = proofs_below(options.folders, options.search)
     if not options.dask and not there():
