@@ -1,4 +1,4 @@
-"""Says of many proofs which are verified.
+"""Says of many models and proofs which are verified.
 
     dlkt batch FOLDER.. [-j N] [--no-search] [--dask ADDRESS] [--against TABLE] [--seconds N] [--json] [--dlk PROGRAM]
 
@@ -227,7 +227,7 @@ def with_search(folder: Path, program: str) -> Mapping[str, bytes]:
         found = by_sketch(model, Source(str(folder / "strategy"), files["strategy"]), program)
     if not isinstance(found, Source):
         word = "refuted" if found.is_refuted else "no proof is found"
-        raise Refused(f"{word}: {'; '.join(line.strip() for line in found.reasons)}")
+        raise Refused(f"{word}: {'; '.join(' '.join(line.split()) for line in found.reasons)}".replace(":; ", ": "))
     kind = Kind.TERM if found.data.startswith(TERM_BEGINS) else Kind.STRATEGY
     return {"model": read_bytes(model), str(kind): found.data}
 
