@@ -28,21 +28,70 @@ found_either name xs ys o p both is h l =
     let test : Axiom → Bool = λ a. bytes_eq a.name name in
     subst (Finds Fits (find test (xs ++ ys))) (sym is) (find_either Fits test xs ys o p h l)
 
+-- the groups of rows
+abbrev pub assignments : List Axiom
+assignments = take 5 box_axioms
+
+abbrev pub other_boxes : List Axiom
+other_boxes = drop 5 box_axioms
+
+abbrev pub domains : List Axiom
+domains = take 3 ode_axioms
+
+abbrev pub effects : List Axiom
+effects = take 3 (drop 3 ode_axioms)
+
+abbrev pub evolutions : List Axiom
+evolutions = take 2 (drop 6 ode_axioms)
+
+abbrev pub solutions : List Axiom
+solutions = drop 8 ode_axioms
+
+abbrev pub sums : List Axiom
+sums = take 5 differential_axioms
+
+abbrev pub products : List Axiom
+products = take 3 (drop 5 differential_axioms)
+
+abbrev pub comparisons : List Axiom
+comparisons = take 6 (drop 8 differential_axioms)
+
+abbrev pub connectives : List Axiom
+connectives = drop 14 differential_axioms
+
 -- the groups one after the other
+abbrev pub to_boxes : List Axiom
+to_boxes = assignments ++ other_boxes
+
 abbrev pub to_loops : List Axiom
-to_loops = box_axioms ++ loop_axioms
+to_loops = to_boxes ++ loop_axioms
+
+abbrev pub to_domains : List Axiom
+to_domains = to_loops ++ domains
+
+abbrev pub to_effects : List Axiom
+to_effects = to_domains ++ effects
 
 abbrev pub to_odes : List Axiom
-to_odes = to_loops ++ ode_axioms
+to_odes = to_effects ++ evolutions
 
-abbrev pub to_terms : List Axiom
-to_terms = to_odes ++ take 8 differential_axioms
+abbrev pub to_solutions : List Axiom
+to_solutions = to_odes ++ solutions
 
-abbrev pub to_formulas : List Axiom
-to_formulas = to_terms ++ drop 8 differential_axioms
+abbrev pub to_sums : List Axiom
+to_sums = to_solutions ++ sums
+
+abbrev pub to_products : List Axiom
+to_products = to_sums ++ products
+
+abbrev pub to_comparisons : List Axiom
+to_comparisons = to_products ++ comparisons
+
+abbrev pub to_connectives : List Axiom
+to_connectives = to_comparisons ++ connectives
 
 abbrev pub to_first_order : List Axiom
-to_first_order = to_formulas ++ first_order_axioms
+to_first_order = to_connectives ++ first_order_axioms
 
 all_are : to_first_order ++ equality_axioms ≡ axioms
 all_are = refl

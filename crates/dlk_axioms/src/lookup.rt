@@ -7,13 +7,22 @@ ghost use Rattle.dlk_axioms.specs.Answers.{Finds};
 ghost use Rattle.dlk_axioms.specs.Rows.{said, said_of_rule};
 
 use crate::table::{
-    AxiomRow, BOX_AXIOMS, EQUALITY_AXIOMS, FIRST_ORDER_AXIOMS, FORMULA_DIFFERENTIAL_AXIOMS,
-    LOOP_AXIOMS, ODE_AXIOMS, RULES, RuleRow, TERM_DIFFERENTIAL_AXIOMS,
+    ASSIGNMENT_AXIOMS, AxiomRow, BOX_AXIOMS, COMPARISON_DIFFERENTIAL_AXIOMS,
+    CONNECTIVE_DIFFERENTIAL_AXIOMS, DOMAIN_AXIOMS, EFFECT_AXIOMS, EQUALITY_AXIOMS,
+    FIRST_ORDER_AXIOMS, LOOP_AXIOMS, ODE_AXIOMS, PRODUCT_DIFFERENTIAL_AXIOMS, RULES, RuleRow,
+    SOLUTION_AXIOMS, SUM_DIFFERENTIAL_AXIOMS,
 };
 
-/// The rows of the axioms of boxes and diamonds.
+/// The rows of the axioms of diamonds, and of boxes of assignments.
+fn assignment_rows() -> &'static [AxiomRow]
+    ensures { map said result.now ≡ take 5 box_axioms }
+{
+    ASSIGNMENT_AXIOMS
+}
+
+/// The rows of the axioms of boxes of the other programs.
 fn box_rows() -> &'static [AxiomRow]
-    ensures { map said result.now ≡ box_axioms }
+    ensures { map said result.now ≡ drop 5 box_axioms }
 {
     BOX_AXIOMS
 }
@@ -25,25 +34,60 @@ fn loop_rows() -> &'static [AxiomRow]
     LOOP_AXIOMS
 }
 
-/// The rows of the axioms of differential equations.
+/// The rows of the axioms of the domain of a system.
+fn domain_rows() -> &'static [AxiomRow]
+    ensures { map said result.now ≡ take 3 ode_axioms }
+{
+    DOMAIN_AXIOMS
+}
+
+/// The rows of the axioms of what a system does to its variables, and of the order of its items.
+fn effect_rows() -> &'static [AxiomRow]
+    ensures { map said result.now ≡ take 3 (drop 3 ode_axioms) }
+{
+    EFFECT_AXIOMS
+}
+
+/// The rows of the axioms of differential invariants and ghosts.
 fn ode_rows() -> &'static [AxiomRow]
-    ensures { map said result.now ≡ ode_axioms }
+    ensures { map said result.now ≡ take 2 (drop 6 ode_axioms) }
 {
     ODE_AXIOMS
 }
 
-/// The rows of the axioms of differentials of terms.
-fn term_differential_rows() -> &'static [AxiomRow]
-    ensures { map said result.now ≡ take 8 differential_axioms }
+/// The rows of the axioms of solutions of systems.
+fn solution_rows() -> &'static [AxiomRow]
+    ensures { map said result.now ≡ drop 8 ode_axioms }
 {
-    TERM_DIFFERENTIAL_AXIOMS
+    SOLUTION_AXIOMS
 }
 
-/// The rows of the axioms of differentials of formulas.
-fn formula_differential_rows() -> &'static [AxiomRow]
-    ensures { map said result.now ≡ drop 8 differential_axioms }
+/// The rows of the axioms of differentials of constants, variables and sums.
+fn sum_differential_rows() -> &'static [AxiomRow]
+    ensures { map said result.now ≡ take 5 differential_axioms }
 {
-    FORMULA_DIFFERENTIAL_AXIOMS
+    SUM_DIFFERENTIAL_AXIOMS
+}
+
+/// The rows of the axioms of differentials of products, quotients and powers.
+fn product_differential_rows() -> &'static [AxiomRow]
+    ensures { map said result.now ≡ take 3 (drop 5 differential_axioms) }
+{
+    PRODUCT_DIFFERENTIAL_AXIOMS
+}
+
+/// The rows of the axioms of differentials of comparisons.
+fn comparison_differential_rows() -> &'static [AxiomRow]
+    ensures { map said result.now ≡ take 6 (drop 8 differential_axioms) }
+{
+    COMPARISON_DIFFERENTIAL_AXIOMS
+}
+
+/// The rows of the axioms of differentials of connectives and quantifiers.
+fn connective_differential_rows() -> &'static [AxiomRow]
+    ensures { map said result.now ≡ drop 14 differential_axioms }
+{
+    CONNECTIVE_DIFFERENTIAL_AXIOMS
 }
 
 /// The rows of the axioms of first order.
@@ -85,11 +129,17 @@ fn rule_among<'a>(rows: &'a [RuleRow], name: &[u8]) -> Option<&'a RuleRow>
 pub(crate) fn axiom_row(name: &[u8]) -> Option<&'static AxiomRow>
     ensures { Finds (λ (a : Axiom) row. said row.now ≡ a) (axiom_named name.now) result }
 {
-    axiom_among(box_rows(), name)
+    axiom_among(assignment_rows(), name)
+        .or(axiom_among(box_rows(), name))
         .or(axiom_among(loop_rows(), name))
+        .or(axiom_among(domain_rows(), name))
+        .or(axiom_among(effect_rows(), name))
         .or(axiom_among(ode_rows(), name))
-        .or(axiom_among(term_differential_rows(), name))
-        .or(axiom_among(formula_differential_rows(), name))
+        .or(axiom_among(solution_rows(), name))
+        .or(axiom_among(sum_differential_rows(), name))
+        .or(axiom_among(product_differential_rows(), name))
+        .or(axiom_among(comparison_differential_rows(), name))
+        .or(axiom_among(connective_differential_rows(), name))
         .or(axiom_among(first_order_rows(), name))
         .or(axiom_among(equality_rows(), name))
 }

@@ -23,8 +23,8 @@ pub(crate) struct RuleRow {
     pub conclusion: &'static Shape,
 }
 
-/// Boxes and diamonds.
-pub(crate) const BOX_AXIOMS: &[AxiomRow] = &[
+/// Diamonds, and boxes of assignments.
+pub(crate) const ASSIGNMENT_AXIOMS: &[AxiomRow] = &[
     // <a;>p(||) <-> ![a;]!p(||)
     AxiomRow {
         name: b"diamond",
@@ -76,6 +76,10 @@ pub(crate) const BOX_AXIOMS: &[AxiomRow] = &[
             &One(P_OF, &F0),
         ),
     },
+];
+
+/// Boxes of the other programs.
+pub(crate) const BOX_AXIOMS: &[AxiomRow] = &[
     // [x_:=*;]p(||) <-> \forall x_ p(||)
     AxiomRow {
         name: b"randomb",
@@ -158,8 +162,8 @@ pub(crate) const LOOP_AXIOMS: &[AxiomRow] = &[
     },
 ];
 
-/// Differential equations.
-pub(crate) const ODE_AXIOMS: &[AxiomRow] = &[
+/// The domain of a system.
+pub(crate) const DOMAIN_AXIOMS: &[AxiomRow] = &[
     // [{c&q(||)}]q(||)
     AxiomRow {
         name: b"DW",
@@ -193,6 +197,10 @@ pub(crate) const ODE_AXIOMS: &[AxiomRow] = &[
             ),
         ),
     },
+];
+
+/// What a system does to its variables, and the order of its items.
+pub(crate) const EFFECT_AXIOMS: &[AxiomRow] = &[
     // [{x_'=f(||)&q(||)}]p(||) <-> [{x_'=f(||)&q(||)}][x_':=f(||);]p(||)
     AxiomRow {
         name: b"DE",
@@ -234,6 +242,10 @@ pub(crate) const ODE_AXIOMS: &[AxiomRow] = &[
             &Two(Box, &One(SYSTEM_D_C, &Q), &P),
         ),
     },
+];
+
+/// Differential invariants and ghosts.
+pub(crate) const ODE_AXIOMS: &[AxiomRow] = &[
     // (q(||) -> [{c&q(||)}](p(||))') -> ([{c&q(||)}]p(||) <-> [?q(||);]p(||))
     AxiomRow {
         name: b"DI",
@@ -271,6 +283,10 @@ pub(crate) const ODE_AXIOMS: &[AxiomRow] = &[
             ),
         ),
     },
+];
+
+/// Solutions of systems.
+pub(crate) const SOLUTION_AXIOMS: &[AxiomRow] = &[
     // [{x_'=f()&q(x_)}]p(x_) <-> \forall t_ (t_>=0 -> ((\forall s_ (0<=s_&s_<=t_ -> q(x_+f()*s_))) -> [x_:=x_+f()*t_;]p(x_)))
     AxiomRow {
         name: b"DS",
@@ -306,8 +322,8 @@ pub(crate) const ODE_AXIOMS: &[AxiomRow] = &[
     },
 ];
 
-/// Differentials of terms.
-pub(crate) const TERM_DIFFERENTIAL_AXIOMS: &[AxiomRow] = &[
+/// Differentials of constants, variables and sums.
+pub(crate) const SUM_DIFFERENTIAL_AXIOMS: &[AxiomRow] = &[
     // (f())'=0
     AxiomRow {
         name: b"Dconst",
@@ -351,6 +367,10 @@ pub(crate) const TERM_DIFFERENTIAL_AXIOMS: &[AxiomRow] = &[
         own_names: &[],
         formula: &Two(Eq, &One(Diff, &One(Neg, &F)), &One(Neg, &One(Diff, &F))),
     },
+];
+
+/// Differentials of products, quotients and powers.
+pub(crate) const PRODUCT_DIFFERENTIAL_AXIOMS: &[AxiomRow] = &[
     // (f(||)*g(||))'=(f(||))'*g(||)+f(||)*(g(||))'
     AxiomRow {
         name: b"Dtimes",
@@ -406,8 +426,8 @@ pub(crate) const TERM_DIFFERENTIAL_AXIOMS: &[AxiomRow] = &[
     },
 ];
 
-/// Differentials of formulas.
-pub(crate) const FORMULA_DIFFERENTIAL_AXIOMS: &[AxiomRow] = &[
+/// Differentials of comparisons.
+pub(crate) const COMPARISON_DIFFERENTIAL_AXIOMS: &[AxiomRow] = &[
     // (f(||)=g(||))' <-> (f(||))'=(g(||))'
     AxiomRow {
         name: b"Deq",
@@ -474,6 +494,10 @@ pub(crate) const FORMULA_DIFFERENTIAL_AXIOMS: &[AxiomRow] = &[
             &Two(Le, &One(Diff, &F), &One(Diff, &G)),
         ),
     },
+];
+
+/// Differentials of connectives and quantifiers.
+pub(crate) const CONNECTIVE_DIFFERENTIAL_AXIOMS: &[AxiomRow] = &[
     // (p(||)&q(||))' <-> (p(||))'&(q(||))'
     AxiomRow {
         name: b"Dand",

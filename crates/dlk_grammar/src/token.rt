@@ -1,7 +1,7 @@
 use dlk_tree::{Name, Num};
 
 /// A fixed spelling.
-#[derive(Clone, Copy, Debug, PartialEq, Eq)]
+#[derive(Clone, Copy)]
 pub enum Mark {
     /// `\forall`
     Forall,
@@ -84,7 +84,7 @@ pub enum Mark {
 }
 
 /// What a token is.
-#[derive(Drop, Debug, PartialEq, Eq)]
+#[derive(Drop)]
 pub enum TokenKind {
     Word(Name),
     /// The word `true`.
@@ -104,7 +104,7 @@ pub enum TokenKind {
 }
 
 /// A token, with the places of its first byte and of the byte behind its last.
-#[derive(Drop, Debug, PartialEq, Eq)]
+#[derive(Drop)]
 pub struct Token {
     pub kind: TokenKind,
     pub at: usize,
@@ -112,14 +112,14 @@ pub struct Token {
 }
 
 /// Whether argument dots and the hole are in the grammar of a text.
-#[derive(Clone, Copy, Debug, PartialEq, Eq)]
+#[derive(Clone, Copy)]
 pub enum Dots {
     Refused,
     Allowed,
 }
 
 /// What a text of one tree is to be.
-#[derive(Clone, Copy, Debug, PartialEq, Eq)]
+#[derive(Clone, Copy)]
 pub enum Form {
     Formula,
     Term,
@@ -129,7 +129,7 @@ pub enum Form {
 }
 
 /// What stands between two operands.
-#[derive(Clone, Copy, Debug, PartialEq, Eq)]
+#[derive(Clone, Copy)]
 pub enum Infix {
     Equiv,
     Imply,

@@ -1,8 +1,10 @@
 //! What each name of the library stands for.
-ghost use Rattle.std.specs.Prelude.{◌≡◌, List, IfOk};
+ghost use Rattle.std.specs.Prelude.{◌≡◌, ◌++◌, ◌∷◌, [], List, map, All, IfOk, IsTrue};
+ghost use Rattle.dlk_tree.specs.Names.{is_name};
 ghost use Rattle.dlk_tree.specs.Trees.{Tree};
 ghost use Rattle.dlk_store.specs.Stores.{IsId, tree};
 ghost use Rattle.dlk_tacsyn.specs.Ties.{argument_at, ArgumentIsKnown, tactic_at, TacticIsKnown};
+ghost use Rattle.dlk_library.specs.Parts.{rule_at, use_at};
 ghost use Rattle.dlk_library.specs.Library.{base_and_step, connective, cut_of, ghost_of, invariant_of, loop_of, propositional_of, step_of, weakening_of};
 
 use crate::parts::{atom, for_ghost, for_r, generalized, nothing, rule_at, use_at, use_with};
@@ -84,22 +86,54 @@ pub(crate) fn ghost_of(
     use_with(alloc, at, b"DG", place, extra)
 }
 
+/// The steps, and behind them the use of an axiom at the place.
+fn or_use(
+    alloc: Global,
+    at: usize,
+    mut steps: Vec<Tactic>,
+    name: &[u8],
+    place: &Arg,
+) -> Result<Vec<Tactic>, AllocError>
+    requires { IsTrue (is_name name.now) }
+    ensures made { IfOk result (λ all. (trees : List Tree) → map (tactic_at trees) all.items ≡ map (tactic_at trees) steps.items ++ use_at at name.now (argument_at trees place.now) ∷ []) }
+    ensures known { IfOk result (λ all. (trees : List Tree) → ArgumentIsKnown trees place.now → All (TacticIsKnown trees) steps.items → All (TacticIsKnown trees) all.items) }
+{
+    let step = use_at(alloc, at, name, place)?;
+    steps.push(step)?;
+    Ok(steps)
+}
+
 /// `step(P)`: the axiom of the program that stands outermost.
 pub(crate) fn step_of(alloc: Global, at: usize, place: &Arg) -> Result<Tactic, AllocError>
     ensures made { IfOk result (λ t. (trees : List Tree) → tactic_at trees t ≡ step_of at (argument_at trees place.now)) }
     ensures known { IfOk result (λ t. (trees : List Tree) → ArgumentIsKnown trees place.now → TacticIsKnown trees t) }
 {
-    let steps = vec![in alloc;
-        use_at(alloc, at, b"assignb", place)?,
-        use_at(alloc, at, b"dassignb", place)?,
-        use_at(alloc, at, b"assigneq", place)?,
-        use_at(alloc, at, b"testb", place)?,
-        use_at(alloc, at, b"choiceb", place)?,
-        use_at(alloc, at, b"composeb", place)?,
-        use_at(alloc, at, b"randomb", place)?,
-        use_at(alloc, at, b"diamond", place)?,
-    ]?;
+    let steps = or_use(alloc, at, Vec::new(alloc), b"assignb", place)?;
+    let steps = or_use(alloc, at, steps, b"dassignb", place)?;
+    let steps = or_use(alloc, at, steps, b"assigneq", place)?;
+    let steps = or_use(alloc, at, steps, b"testb", place)?;
+    let steps = or_use(alloc, at, steps, b"choiceb", place)?;
+    let steps = or_use(alloc, at, steps, b"composeb", place)?;
+    let steps = or_use(alloc, at, steps, b"randomb", place)?;
+    let steps = or_use(alloc, at, steps, b"diamond", place)?;
     Ok(Tactic::choice(steps))
+}
+
+/// The rules, and behind them one more at the place.
+fn or_rule(
+    alloc: Global,
+    at: usize,
+    mut rules: Vec<Tactic>,
+    name: &[u8],
+    place: Arg,
+) -> Result<Vec<Tactic>, AllocError>
+    requires { IsTrue (is_name name.now) }
+    ensures made { IfOk result (λ all. (trees : List Tree) → map (tactic_at trees) all.items ≡ map (tactic_at trees) rules.items ++ rule_at at name.now (argument_at trees place) ∷ []) }
+    ensures known { IfOk result (λ all. (trees : List Tree) → ArgumentIsKnown trees place → All (TacticIsKnown trees) rules.items → All (TacticIsKnown trees) all.items) }
+{
+    let rule = rule_at(alloc, at, name, place)?;
+    rules.push(rule)?;
+    Ok(rules)
 }
 
 /// A rule on a connective, or one that closes the goal.
@@ -107,21 +141,19 @@ fn connective(alloc: Global, at: usize) -> Result<Tactic, AllocError>
     ensures made { IfOk result (λ t. (trees : List Tree) → tactic_at trees t ≡ connective at) }
     ensures known { IfOk result (λ t. (trees : List Tree) → TacticIsKnown trees t) }
 {
-    let rules = vec![in alloc;
-        atom(alloc, at, b"close", Vec::new(alloc))?,
-        rule_at(alloc, at, b"closeTrue", Arg::AnyRight)?,
-        rule_at(alloc, at, b"closeFalse", Arg::AnyLeft)?,
-        rule_at(alloc, at, b"notL", Arg::AnyLeft)?,
-        rule_at(alloc, at, b"notR", Arg::AnyRight)?,
-        rule_at(alloc, at, b"andL", Arg::AnyLeft)?,
-        rule_at(alloc, at, b"orR", Arg::AnyRight)?,
-        rule_at(alloc, at, b"implyR", Arg::AnyRight)?,
-        rule_at(alloc, at, b"equivL", Arg::AnyLeft)?,
-        rule_at(alloc, at, b"andR", Arg::AnyRight)?,
-        rule_at(alloc, at, b"orL", Arg::AnyLeft)?,
-        rule_at(alloc, at, b"implyL", Arg::AnyLeft)?,
-        rule_at(alloc, at, b"equivR", Arg::AnyRight)?,
-    ]?;
+    let rules = vec![in alloc; atom(alloc, at, b"close", Vec::new(alloc))?]?;
+    let rules = or_rule(alloc, at, rules, b"closeTrue", Arg::AnyRight)?;
+    let rules = or_rule(alloc, at, rules, b"closeFalse", Arg::AnyLeft)?;
+    let rules = or_rule(alloc, at, rules, b"notL", Arg::AnyLeft)?;
+    let rules = or_rule(alloc, at, rules, b"notR", Arg::AnyRight)?;
+    let rules = or_rule(alloc, at, rules, b"andL", Arg::AnyLeft)?;
+    let rules = or_rule(alloc, at, rules, b"orR", Arg::AnyRight)?;
+    let rules = or_rule(alloc, at, rules, b"implyR", Arg::AnyRight)?;
+    let rules = or_rule(alloc, at, rules, b"equivL", Arg::AnyLeft)?;
+    let rules = or_rule(alloc, at, rules, b"andR", Arg::AnyRight)?;
+    let rules = or_rule(alloc, at, rules, b"orL", Arg::AnyLeft)?;
+    let rules = or_rule(alloc, at, rules, b"implyL", Arg::AnyLeft)?;
+    let rules = or_rule(alloc, at, rules, b"equivR", Arg::AnyRight)?;
     Ok(Tactic::choice(rules))
 }
 

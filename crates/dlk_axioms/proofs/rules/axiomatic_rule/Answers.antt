@@ -29,3 +29,15 @@ returns-clause-rule g c =
           (subst (StandsAlone old premise) (ap (λ (r : AxiomaticRule). r.premise) h.2) c.in_ok-premise.ensures.made)
           (subst (StandsAlone new conclusion) (ap (λ (r : AxiomaticRule). r.conclusion) h.2) c.in_ok-conclusion.ensures.made),
     )
+
+pub returns-in_err-conclusion-clause-grows : goal.returns-in_err-conclusion-clause-grows
+returns-in_err-conclusion-clause-grows g c =
+    g.met.S.Store.grows_trans c.args.store.now c.make_alone_right.new.store c.make_alone_right-2.new.store c.make_alone_right.ensures.grows c.make_alone_right-2.ensures.grows
+
+pub returns-in_err-premises-clause-grows : goal.returns-in_err-premises-clause-grows
+returns-in_err-premises-clause-grows g c =
+    g.met.S.Store.grows_trans c.args.store.now c.make_alone_right.new.store c.make_alone_right-2.new.store c.make_alone_right.ensures.grows c.make_alone_right-2.ensures.grows
+
+pub returns-clause-grows : goal.returns-clause-grows
+returns-clause-grows g c =
+    g.met.S.Store.grows_trans c.args.store.now c.make_alone_right.new.store c.make_alone_right-2.new.store c.make_alone_right.ensures.grows c.make_alone_right-2.ensures.grows

@@ -42,3 +42,7 @@ pub returns-clause-grows : goal.returns-clause-grows
 returns-clause-grows g c =
     g.met.S.Store.grows_trans c.args.store.now c.make-2.new.self c.make-3.new.self
     (g.met.S.Store.grows_trans c.args.store.now c.make.new.self c.make-2.new.self c.make.ensures.grows c.make-2.ensures.grows) c.make-3.ensures.grows
+
+pub returns-in_err-implied-clause-grows : goal.returns-in_err-implied-clause-grows
+returns-in_err-implied-clause-grows g c =
+    g.met.S.Store.grows_trans c.args.store.now c.make.new.self c.make-2.new.self c.make.ensures.grows c.make-2.ensures.grows

@@ -1,3 +1,4 @@
+use Rattle.dlk_kernel.proofs.RowsKept.{rows_stay, rows_same_after, rows_longer}
 use Rattle.std.proofs.Common.{List, map, subst, inl, inr}
 use Rattle.std.proofs.lemmas.Result.{err_from_is_err_and}
 use Rattle.dlk_calculus.specs.Provables.{Provable}
@@ -76,3 +77,28 @@ returns-in_err-take_in_turn-clause-memory g c = λ is.
       steps = map (step_at (g.S.Store.trees c.planned.new.kernel.store)) c.in_ok-plan.plan.items;
       asks = asked.asks;
     })
+
+pub returns-in_err-plan-clause-kept : goal.returns-in_err-plan-clause-kept
+returns-in_err-plan-clause-kept g c =
+    let tr = g.S.Store.trees in let a = c.args.kernel.now in let b = c.planned.new.kernel in
+    rows_same_after tr a a b (rows_stay tr a) c.planned.ensures.same
+
+pub returns-in_err-take_in_turn-clause-kept : goal.returns-in_err-take_in_turn-clause-kept
+returns-in_err-take_in_turn-clause-kept g c =
+    let tr = g.S.Store.trees in let a = c.args.kernel.now in let b = c.planned.new.kernel in
+    rows_longer tr a b c.take_in_turn.new.kernel
+    (rows_same_after tr a a b (rows_stay tr a) c.planned.ensures.same) c.take_in_turn.ensures.kept
+
+pub returns-clause-kept : goal.returns-clause-kept
+returns-clause-kept g c =
+    let tr = g.S.Store.trees in let a = c.args.kernel.now in let b = c.planned.new.kernel in
+    rows_longer tr a b c.take_in_turn.new.kernel
+    (rows_same_after tr a a b (rows_stay tr a) c.planned.ensures.same) c.take_in_turn.ensures.kept
+
+pub returns-in_err-take_in_turn-clause-grows : goal.returns-in_err-take_in_turn-clause-grows
+returns-in_err-take_in_turn-clause-grows g c =
+    g.met.S.Store.grows_trans c.args.kernel.now.store c.planned.new.kernel.store c.take_in_turn.new.kernel.store c.planned.ensures.grows c.take_in_turn.ensures.grows
+
+pub returns-clause-grows : goal.returns-clause-grows
+returns-clause-grows g c =
+    g.met.S.Store.grows_trans c.args.kernel.now.store c.planned.new.kernel.store c.take_in_turn.new.kernel.store c.planned.ensures.grows c.take_in_turn.ensures.grows

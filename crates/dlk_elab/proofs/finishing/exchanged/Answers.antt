@@ -68,3 +68,23 @@ returns-clause-grows g c =
     let a = c.args.store.now in let d = c.put.new.store in
     g.met.S.Store.grows_trans a d c.put-2.new.store (g.met.S.Store.grows_trans a c.make.new.self d c.make.ensures.grows c.put.ensures.grows)
     c.put-2.ensures.grows
+
+pub put-requires-clause-spine : goal.put-requires-clause-spine
+put-requires-clause-spine g c =
+    let a = c.args.store.now in let b = c.make.new.self in
+    c.spine_stays.ensures.spine (g.S.Store.trees a) (g.S.Store.trees b) c.args.spine.now (g.met.S.Store.grows_keeps a b c.make.ensures.grows) c.requires.spine
+
+pub put-requires-clause-new : goal.put-requires-clause-new
+put-requires-clause-new g c =
+    c.in_ok-hole.ensures.made.known
+
+pub put-requires-clause-sort : goal.put-requires-clause-sort
+put-requires-clause-sort g c =
+    let a = c.args.store.now in let b = c.make.new.self in
+    let ab = g.met.S.Store.grows_keeps a b c.make.ensures.grows in
+    let found = c.spine_stays.ensures.found (g.S.Store.trees a) (g.S.Store.trees b) c.args.spine.now ab c.requires.spine in
+    ap sort c.in_ok-hole.ensures.made.tree_is ∙ sym (ap sort found ∙ c.requires.found)
+
+pub returns-in_err-context-clause-grows : goal.returns-in_err-context-clause-grows
+returns-in_err-context-clause-grows g c =
+    g.met.S.Store.grows_trans c.args.store.now c.make.new.self c.put.new.store c.make.ensures.grows c.put.ensures.grows

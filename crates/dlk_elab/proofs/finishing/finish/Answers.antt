@@ -31,3 +31,19 @@ returns-in-F-clause-made g c =
     let way = c.args.spine.now in
     if_ok c.finish_fact.result _ _ c.finish_fact.ensures
     (λ steps made. rw c.in-F.is (made trees (path_of way) (tree trees (top way)) (tree trees c.args.f)))
+
+pub finish_equivalence-requires-clause-form : goal.finish_equivalence-requires-clause-form
+finish_equivalence-requires-clause-form g c =
+    rw c.in-E.is at c.requires.form
+
+pub finish_equation-requires-clause-form : goal.finish_equation-requires-clause-form
+finish_equation-requires-clause-form g c =
+    rw c.in-Q.is at c.requires.form
+
+pub finish_conditional_equation-requires-clause-form : goal.finish_conditional_equation-requires-clause-form
+finish_conditional_equation-requires-clause-form g c =
+    rw c.in-R.is at c.requires.form
+
+pub finish_implication-requires-clause-form : goal.finish_implication-requires-clause-form
+finish_implication-requires-clause-form g c =
+    λ found. rw c.in-I.is at c.requires.form

@@ -1,4 +1,5 @@
-use Rattle.std.proofs.Common.{◌≡◌, ap, sym, ◌∙◌}
+use Rattle.dlk_tree.specs.Trees.{kids_of, Tree}
+use Rattle.std.proofs.Common.{◌≡◌, ap, sym, ◌∙◌, subst, ◌∷◌, []}
 use Rattle.dlk_store.specs.Stores.{tree, StandsFor}
 use Rattle.dlk_sequent.specs.Spines.{top, path_of}
 use Rattle.dlk_calculus.specs.Notation.{eq}
@@ -34,3 +35,12 @@ returns-clause-made g c =
     condition.tree_is ll rr round.innermost
     (λ s right. c.in_ok-made.ensures new s e outer inner d l r condition.known stands made.equated
     (exchange_same c.in_ok-x.x.exchanged (ap (tree old) round.starts) (λ i. put_at d inner l) (λ i. put_at d inner r) made.exchanged) right)
+
+pub sides_of-whole-requires-clause-two : goal.sides_of-whole-requires-clause-two
+sides_of-whole-requires-clause-two g c =
+    let t = tree (g.S.Store.trees c.args.store.now) c.args.f in
+    ap kids_of c.requires.form.0 ∙ ap (λ (r : Tree). left_of t ∷ r ∷ []) (sym (ap right_of c.requires.form.0))
+
+pub sides_of-sides-requires-clause-two : goal.sides_of-sides-requires-clause-two
+sides_of-sides-requires-clause-two g c =
+    subst (λ (t : Tree). kids_of t ≡ left_of t ∷ right_of t ∷ []) (sym c.sides_of-whole.ensures.right.tree_is) (ap kids_of (ap right_of c.requires.form.0))

@@ -1,3 +1,4 @@
+use Rattle.dlk_tree.specs.Trees.{kids_of}
 use Rattle.std.proofs.Common.{ap}
 use Rattle.dlk_store.specs.Stores.{tree}
 use Rattle.dlk_sequent.specs.Spines.{top, path_of}
@@ -24,3 +25,7 @@ returns-clause-made g c =
     round.innermost
     (λ s right. c.in_ok-made.ensures new s e outer inner d l r made.equated
     (exchange_same c.in_ok-x.x.exchanged (ap (tree old) round.starts) (λ i. put_at d inner l) (λ i. put_at d inner r) made.exchanged) right)
+
+pub sides_of-sides-requires-clause-two : goal.sides_of-sides-requires-clause-two
+sides_of-sides-requires-clause-two g c =
+    ap kids_of c.requires.form.0

@@ -1,3 +1,5 @@
+use Rattle.std.proofs.Common.{ap}
+use Rattle.dlk_tree.specs.Trees.{kids_of}
 use Rattle.dlk_store.specs.Stores.{tree}
 use Rattle.dlk_sequent.specs.Spines.{top, path_of}
 use Rattle.dlk_elab.proofs.FinishPlans.{equivalence_finished}
@@ -14,3 +16,7 @@ returns-clause-made g c =
     let e = tree old (top way) in
     equivalence_finished new c.args.now c.args.aim (path_of way) e (tree old c.args.f) c.in_ok-made.made.items l r sides.left.tree_is sides.right.tree_is
     (λ s right. c.in_ok-made.ensures new s e (path_of way) l r c.in_ok-x.ensures.made right)
+
+pub sides_of-sides-requires-clause-two : goal.sides_of-sides-requires-clause-two
+sides_of-sides-requires-clause-two g c =
+    ap kids_of c.requires.form.0

@@ -1,3 +1,4 @@
+use Rattle.dlk_kernel.proofs.RowsKept.{rows_stay, rows_same_after, rows_longer}
 use Rattle.std.proofs.Common.{◌≡◌, List, Err, length, map, sym, ap, subst, ◌∙◌, arith}
 use Rattle.std.proofs.lemmas.List.{length-map}
 use Rattle.std.proofs.lemmas.Result.{err_from_is_err_and}
@@ -244,3 +245,56 @@ returns-clause-grows g c =
     c.take_in_turn.ensures.grows in
     let second = g.met.S.Store.grows_trans c.args.kernel.now.store c.take_in_turn.new.kernel.store c.behind.new.kernel.store first c.behind.ensures.grows in
     g.met.S.Store.grows_trans c.args.kernel.now.store c.behind.new.kernel.store c.take_in_turn-2.new.kernel.store second c.take_in_turn-2.ensures.grows
+
+pub returns-in_err-found-clause-kept : goal.returns-in_err-found-clause-kept
+returns-in_err-found-clause-kept g c =
+    let tr = g.S.Store.trees in let a = c.args.kernel.now in let b = c.find.new.kernel in
+    rows_same_after tr a a b (rows_stay tr a) c.find.ensures.same
+
+pub returns-in_err-plan-clause-kept : goal.returns-in_err-plan-clause-kept
+returns-in_err-plan-clause-kept g c =
+    let tr = g.S.Store.trees in let a = c.args.kernel.now in let b = c.find.new.kernel in
+    rows_same_after tr a a b (rows_stay tr a) c.find.ensures.same
+
+pub returns-in_err-take_in_turn-clause-kept : goal.returns-in_err-take_in_turn-clause-kept
+returns-in_err-take_in_turn-clause-kept g c =
+    let tr = g.S.Store.trees in let a = c.args.kernel.now in let b = c.find.new.kernel in
+    let d = c.take_in_turn.new.kernel in
+    rows_longer tr a b d (rows_same_after tr a a b (rows_stay tr a) c.find.ensures.same) c.take_in_turn.ensures.kept
+
+pub returns-in_err-rest-clause-kept : goal.returns-in_err-rest-clause-kept
+returns-in_err-rest-clause-kept g c =
+    let tr = g.S.Store.trees in let a = c.args.kernel.now in let b = c.find.new.kernel in
+    let d = c.take_in_turn.new.kernel in
+    let e = c.behind.new.kernel in
+    rows_same_after tr a d e (rows_longer tr a b d (rows_same_after tr a a b (rows_stay tr a) c.find.ensures.same) c.take_in_turn.ensures.kept) c.behind.ensures.same
+
+pub returns-in_err-take_in_turn-2-clause-kept : goal.returns-in_err-take_in_turn-2-clause-kept
+returns-in_err-take_in_turn-2-clause-kept g c =
+    let tr = g.S.Store.trees in let a = c.args.kernel.now in let b = c.find.new.kernel in
+    let d = c.take_in_turn.new.kernel in
+    let e = c.behind.new.kernel in
+    let f = c.take_in_turn-2.new.kernel in
+    rows_longer tr a e f
+    (rows_same_after tr a d e (rows_longer tr a b d (rows_same_after tr a a b (rows_stay tr a) c.find.ensures.same) c.take_in_turn.ensures.kept) c.behind.ensures.same)
+    c.take_in_turn-2.ensures.kept
+
+pub returns-in_err-all-clause-kept : goal.returns-in_err-all-clause-kept
+returns-in_err-all-clause-kept g c =
+    let tr = g.S.Store.trees in let a = c.args.kernel.now in let b = c.find.new.kernel in
+    let d = c.take_in_turn.new.kernel in
+    let e = c.behind.new.kernel in
+    let f = c.take_in_turn-2.new.kernel in
+    rows_longer tr a e f
+    (rows_same_after tr a d e (rows_longer tr a b d (rows_same_after tr a a b (rows_stay tr a) c.find.ensures.same) c.take_in_turn.ensures.kept) c.behind.ensures.same)
+    c.take_in_turn-2.ensures.kept
+
+pub returns-clause-kept : goal.returns-clause-kept
+returns-clause-kept g c =
+    let tr = g.S.Store.trees in let a = c.args.kernel.now in let b = c.find.new.kernel in
+    let d = c.take_in_turn.new.kernel in
+    let e = c.behind.new.kernel in
+    let f = c.take_in_turn-2.new.kernel in
+    rows_longer tr a e f
+    (rows_same_after tr a d e (rows_longer tr a b d (rows_same_after tr a a b (rows_stay tr a) c.find.ensures.same) c.take_in_turn.ensures.kept) c.behind.ensures.same)
+    c.take_in_turn-2.ensures.kept

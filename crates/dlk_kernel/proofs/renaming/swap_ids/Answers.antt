@@ -1,3 +1,5 @@
+use Rattle.std.proofs.lemmas.List.{take_all}
+use Rattle.std.proofs.Common.{◌≡◌, take, arith}
 use Rattle.dlk_kernel.proofs.Renamed.{one_more_id, one_more_known_id}
 use Rattle.dlk_store.specs.declared.Id.{Id}
 use Rattle.dlk_sequent.proofs.Kept.{IsId-kept}
@@ -23,3 +25,17 @@ loop-id-preserved g c =
           (one_more_id _ _ _ first then c.args.x.now c.args.y.now c.args.ids.now c.loop-id.made n d _ c.loop-id-test.true
           (c.requires n d c.loop-id-test.true) c.loop-id.invariant.known c.loop-id.invariant.made made);
     }
+
+pub returns-in_err-swapped-clause-grows : goal.returns-in_err-swapped-clause-grows
+returns-in_err-swapped-clause-grows g c =
+    g.met.S.Store.grows_trans c.args.store.now c.loop-id.store c.swap.new.store c.loop-id.invariant.grows c.swap.ensures.grows
+
+pub returns-in_err-push-clause-grows : goal.returns-in_err-push-clause-grows
+returns-in_err-push-clause-grows g c =
+    g.met.S.Store.grows_trans c.args.store.now c.loop-id.store c.swap.new.store c.loop-id.invariant.grows c.swap.ensures.grows
+
+pub returns-clause-made : goal.returns-clause-made
+returns-clause-made g c =
+    let all = c.args.ids.now in
+    let done : take c.loop-id.id-index all ≡ all = take_all c.loop-id.id-index all (omega (arith, c.loop-id-test.false)) in
+    rw done at c.loop-id.invariant.made

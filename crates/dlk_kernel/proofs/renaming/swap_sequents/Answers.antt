@@ -1,3 +1,5 @@
+use Rattle.std.proofs.lemmas.List.{take_all}
+use Rattle.std.proofs.Common.{◌≡◌, take, arith}
 use Rattle.dlk_sequent.proofs.Kept.{IsKnown-kept}
 use Rattle.dlk_kernel.proofs.Renamed.{one_more_sequent, one_more_known}
 use Rattle.dlk_kernel.proofs.renaming.swap_sequents.Goals as goal
@@ -23,3 +25,21 @@ loop-s-preserved g c =
           (one_more_sequent _ _ _ first then c.args.x.now c.args.y.now c.args.all.now c.loop-s.made n c.s-item.result _ c.loop-s-test.true
           (c.requires n c.s-item.result c.loop-s-test.true) c.loop-s.invariant.known c.loop-s.invariant.made made);
     }
+
+pub returns-in_err-swapped-clause-grows : goal.returns-in_err-swapped-clause-grows
+returns-in_err-swapped-clause-grows g c =
+    g.met.S.Store.grows_trans c.args.store.now c.loop-s.store c.swap_sequent.new.store c.loop-s.invariant.grows c.swap_sequent.ensures.grows
+
+pub returns-in_err-swapped-2-clause-grows : goal.returns-in_err-swapped-2-clause-grows
+returns-in_err-swapped-2-clause-grows g c =
+    g.met.S.Store.grows_trans c.args.store.now c.loop-s.store c.swap_sequent.new.store c.loop-s.invariant.grows c.swap_sequent.ensures.grows
+
+pub returns-in_err-push-clause-grows : goal.returns-in_err-push-clause-grows
+returns-in_err-push-clause-grows g c =
+    g.met.S.Store.grows_trans c.args.store.now c.loop-s.store c.swap_sequent.new.store c.loop-s.invariant.grows c.swap_sequent.ensures.grows
+
+pub returns-clause-made : goal.returns-clause-made
+returns-clause-made g c =
+    let all = c.args.all.now in
+    let done : take c.loop-s.s-index all ≡ all = take_all c.loop-s.s-index all (omega (arith, c.loop-s-test.false)) in
+    rw done at c.loop-s.invariant.made

@@ -1,3 +1,5 @@
+use Rattle.std.proofs.Common.{◌≡◌, take, arith}
+use Rattle.std.proofs.lemmas.List.{take_all}
 use Rattle.dlk_store.specs.declared.Id.{Id}
 use Rattle.dlk_sequent.proofs.Kept.{IsId-kept}
 use Rattle.dlk_sequent.proofs.KeptPairs.{IsMadeOver-kept}
@@ -60,3 +62,23 @@ returns-in_err-push-clause-looks g c = λ u.
     let d : Id = record { 0 = 0 } in
     ids_stopped first c.args.sigma.now.pairs c.requires.sigma.known _ _ _ n c.args.ids.now d c.loop-id-test.true (c.requires.known n d c.loop-id-test.true)
     (c.loop-id.invariant.looks u) (c.apply.ensures.cost u)
+
+pub returns-in_err-substituted-clause-grows : goal.returns-in_err-substituted-clause-grows
+returns-in_err-substituted-clause-grows g c =
+    g.met.S.Store.grows_trans c.args.store.now c.loop-id.store c.apply.new.store c.loop-id.invariant.grows c.apply.ensures.grows
+
+pub returns-in_err-push-clause-grows : goal.returns-in_err-push-clause-grows
+returns-in_err-push-clause-grows g c =
+    g.met.S.Store.grows_trans c.args.store.now c.loop-id.store c.apply.new.store c.loop-id.invariant.grows c.apply.ensures.grows
+
+pub returns-clause-made : goal.returns-clause-made
+returns-clause-made g c =
+    let ids = c.args.ids.now in
+    let done : take c.loop-id.id-index ids ≡ ids = take_all c.loop-id.id-index ids (omega (arith, c.loop-id-test.false)) in
+    rw done at c.loop-id.invariant.made
+
+pub returns-clause-looks : goal.returns-clause-looks
+returns-clause-looks g c =
+    let ids = c.args.ids.now in
+    let done : take c.loop-id.id-index ids ≡ ids = take_all c.loop-id.id-index ids (omega (arith, c.loop-id-test.false)) in
+    λ u. rw done at (c.loop-id.invariant.looks u)

@@ -78,3 +78,15 @@ returns-clause-looks g c = λ u.
 pub returns-clause-grows : goal.returns-clause-grows
 returns-clause-grows g c =
     g.met.S.Store.grows_trans c.args.store.now c.subst_sequent.new.store c.subst_sequents.new.store c.subst_sequent.ensures.grows c.subst_sequents.ensures.grows
+
+pub returns-in_err-goals-clause-grows : goal.returns-in_err-goals-clause-grows
+returns-in_err-goals-clause-grows g c =
+    g.met.S.Store.grows_trans c.args.store.now c.subst_sequent.new.store c.subst_sequents.new.store c.subst_sequent.ensures.grows c.subst_sequents.ensures.grows
+
+pub returns-in_err-leaves-clause-grows : goal.returns-in_err-leaves-clause-grows
+returns-in_err-leaves-clause-grows g c =
+    g.met.S.Store.grows_trans c.args.store.now c.subst_sequent.new.store c.subst_sequents.new.store c.subst_sequent.ensures.grows c.subst_sequents.ensures.grows
+
+pub returns-in_err-conclusion-2-clause-grows : goal.returns-in_err-conclusion-2-clause-grows
+returns-in_err-conclusion-2-clause-grows g c =
+    g.met.S.Store.grows_trans c.args.store.now c.subst_sequent.new.store c.subst_sequents.new.store c.subst_sequent.ensures.grows c.subst_sequents.ensures.grows

@@ -1,3 +1,6 @@
+use Rattle.std.proofs.lemmas.List.Elements.{All-weaker}
+use Rattle.dlk_store.specs.Stores.{IsId}
+use Rattle.dlk_sequent.proofs.Kept.{IsId-kept}
 use Rattle.dlk_sequent.proofs.KeptPairs.{IsMadeOver-kept}
 use Rattle.dlk_sequent.specs.declared.fault.ApplyFault.TheVariants.{NotAdmissible}
 use Rattle.dlk_subst.proofs.Results.{handed_on}
@@ -39,3 +42,21 @@ returns-clause-looks g c = λ u.
     let first = g.met.S.Store.grows_keeps c.args.store.now c.subst_ids.new.store c.subst_ids.ensures.grows in
     both_looked first c.args.sigma.now.pairs c.requires.sigma.known _ _ _ c.args.s.now c.requires.known (rw c.as_slice.ensures at (c.subst_ids.ensures.looks u))
     (rw c.as_slice-2.ensures at (c.subst_ids-2.ensures.looks u))
+
+pub returns-in_err-succ-clause-grows : goal.returns-in_err-succ-clause-grows
+returns-in_err-succ-clause-grows g c =
+    g.met.S.Store.grows_trans c.args.store.now c.subst_ids.new.store c.subst_ids-2.new.store c.subst_ids.ensures.grows c.subst_ids-2.ensures.grows
+
+pub returns-clause-grows : goal.returns-clause-grows
+returns-clause-grows g c =
+    g.met.S.Store.grows_trans c.args.store.now c.subst_ids.new.store c.subst_ids-2.new.store c.subst_ids.ensures.grows c.subst_ids-2.ensures.grows
+
+pub returns-clause-known : goal.returns-clause-known
+returns-clause-known g c =
+    let then = g.met.S.Store.grows_keeps c.subst_ids.new.store c.subst_ids-2.new.store c.subst_ids-2.ensures.grows in
+    record { ante = All-weaker (IsId _) (IsId _) (IsId-kept then) _ c.in_ok-ante.ensures.known; succ = c.in_ok-succ.ensures.known }
+
+pub subst_ids-requires-2-clause-known : goal.subst_ids-requires-2-clause-known
+subst_ids-requires-2-clause-known g c =
+    let keeps = g.met.S.Store.grows_keeps c.args.store.now c.subst_ids.new.store c.subst_ids.ensures.grows in
+    rw c.as_slice-2.ensures (All-weaker (IsId _) (IsId _) (IsId-kept keeps) c.args.s.now.succ c.requires.known.succ)

@@ -1,3 +1,5 @@
+use Rattle.std.proofs.Common.{◌≡◌, take, arith}
+use Rattle.std.proofs.lemmas.List.{take_all}
 use Rattle.dlk_sequent.proofs.Kept.{IsKnown-kept}
 use Rattle.dlk_sequent.proofs.KeptPairs.{IsMadeOver-kept}
 use Rattle.dlk_sequent.specs.declared.fault.ApplyFault.TheVariants.{NotAdmissible}
@@ -72,3 +74,23 @@ returns-in_err-substituted-2-clause-looks g c = λ u.
 pub returns-in_err-push-clause-grows : goal.returns-in_err-push-clause-grows
 returns-in_err-push-clause-grows g c =
     g.met.S.Store.grows_trans c.args.store.now c.loop-s.store c.subst_sequent.new.store c.loop-s.invariant.grows c.subst_sequent.ensures.grows
+
+pub returns-in_err-substituted-clause-grows : goal.returns-in_err-substituted-clause-grows
+returns-in_err-substituted-clause-grows g c =
+    g.met.S.Store.grows_trans c.args.store.now c.loop-s.store c.subst_sequent.new.store c.loop-s.invariant.grows c.subst_sequent.ensures.grows
+
+pub returns-in_err-substituted-2-clause-grows : goal.returns-in_err-substituted-2-clause-grows
+returns-in_err-substituted-2-clause-grows g c =
+    g.met.S.Store.grows_trans c.args.store.now c.loop-s.store c.subst_sequent.new.store c.loop-s.invariant.grows c.subst_sequent.ensures.grows
+
+pub returns-clause-made : goal.returns-clause-made
+returns-clause-made g c =
+    let all = c.args.all.now in
+    let done : take c.loop-s.s-index all ≡ all = take_all c.loop-s.s-index all (omega (arith, c.loop-s-test.false)) in
+    rw done at c.loop-s.invariant.made
+
+pub returns-clause-looks : goal.returns-clause-looks
+returns-clause-looks g c =
+    let all = c.args.all.now in
+    let done : take c.loop-s.s-index all ≡ all = take_all c.loop-s.s-index all (omega (arith, c.loop-s-test.false)) in
+    λ u. rw done at (c.loop-s.invariant.looks u)

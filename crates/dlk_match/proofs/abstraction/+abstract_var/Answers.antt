@@ -68,3 +68,7 @@ returns-clause-made g t c =
     let is = c.as_slice.ensures.value ∙ c.in_ok-extend_from_slice.ensures.items
     ∙ rest_is c.loop-i.new.items c.in_ok-kids.kids.items c.deref.result.now c.entered-count.result c.loop-i.i c.deref.ensures.value at in
     rw (made_abstracted c.args.v.now i.made c.as_slice.result.now is (omega (arith, at, i.few)) i.other (omega (arith, at, i.count))) c.make-2.ensures.made
+
+pub returns-clause-grows : goal.returns-clause-grows
+returns-clause-grows g t c =
+    g.met.S.Store.grows_trans c.args.store.now c.loop-i.store c.make-2.new.self c.loop-i.invariant.grows c.make-2.ensures.grows

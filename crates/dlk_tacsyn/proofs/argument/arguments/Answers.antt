@@ -40,3 +40,11 @@ returns-then-rest-gt0-clause-fault g c =
           ∙ arguments_left read (map (argument_at (g.S.Store.trees c.loop-next.store)) c.loop-next.all.items) c.loop-next.rest.wanted.now
           c.loop-next.rest.optional (into_iter_items c.loop-next.next-iterator) none some,
     )
+
+pub returns-in_err-argument-clause-grows : goal.returns-in_err-argument-clause-grows
+returns-in_err-argument-clause-grows g c =
+    g.met.S.Store.grows_trans c.args.store.now c.loop-next.store c.argument.new.store c.loop-next.invariant.grows c.argument.ensures.grows
+
+pub returns-in_err-push-clause-grows : goal.returns-in_err-push-clause-grows
+returns-in_err-push-clause-grows g c =
+    g.met.S.Store.grows_trans c.args.store.now c.loop-next.store c.argument.new.store c.loop-next.invariant.grows c.argument.ensures.grows

@@ -46,3 +46,19 @@ returns-clause-known g c =
 
 pub returns-clause-within : goal.returns-clause-within
 returns-clause-within g c = rename_within c.args.fact c.args.x.now c.args.y.now _
+
+pub returns-in_err-goals-clause-grows : goal.returns-in_err-goals-clause-grows
+returns-in_err-goals-clause-grows g c =
+    g.met.S.Store.grows_trans c.args.store.now c.swap_sequent.new.store c.swap_sequents.new.store c.swap_sequent.ensures.grows c.swap_sequents.ensures.grows
+
+pub returns-in_err-conclusion-2-clause-grows : goal.returns-in_err-conclusion-2-clause-grows
+returns-in_err-conclusion-2-clause-grows g c =
+    g.met.S.Store.grows_trans c.args.store.now c.swap_sequent.new.store c.swap_sequents.new.store c.swap_sequent.ensures.grows c.swap_sequents.ensures.grows
+
+pub returns-in_err-leaves-clause-grows : goal.returns-in_err-leaves-clause-grows
+returns-in_err-leaves-clause-grows g c =
+    g.met.S.Store.grows_trans c.args.store.now c.swap_sequent.new.store c.swap_sequents.new.store c.swap_sequent.ensures.grows c.swap_sequents.ensures.grows
+
+pub returns-clause-grows : goal.returns-clause-grows
+returns-clause-grows g c =
+    g.met.S.Store.grows_trans c.args.store.now c.swap_sequent.new.store c.swap_sequents.new.store c.swap_sequent.ensures.grows c.swap_sequents.ensures.grows

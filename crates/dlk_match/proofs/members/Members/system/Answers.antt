@@ -22,3 +22,7 @@ returns-clause-made g c =
     let ids : c.as_slice.result.now ≡ take (length (evolved ms.items.now)) ms.kids.now ++ c.in_ok-domain.domain ∷ [] = search rules in
     let own = own_system keeps ms c.requires c.new-items.result items c.in_ok-domain.domain c.in_ok-domain.ensures.made.tree_is c.as_slice.result.now ids in
     subst (λ (t : Tree). IfOk c.make-2.result (λ id. StandsFor (g.S.Store.trees c.make-2.new.self) id t)) own c.make-2.ensures.made
+
+pub returns-clause-grows : goal.returns-clause-grows
+returns-clause-grows g c =
+    g.met.S.Store.grows_trans c.args.store.now c.make.new.self c.make-2.new.self c.make.ensures.grows c.make-2.ensures.grows

@@ -11,6 +11,12 @@ loop-item-init c = record { keeps = keeps_refl c.args.self.now; means = means_sa
 pub in_item-requires : goal.in_item-requires
 in_item-requires c = means_kept c.loop-item.invariant.keeps c.requires
 
+pub returns-in_err-one-clause-keeps : goal.returns-in_err-one-clause-keeps
+returns-in_err-one-clause-keeps c = keeps_trans c.loop-item.invariant.keeps c.in_err-one.ensures.keeps
+
+pub returns-in_err-all-clause-keeps : goal.returns-in_err-all-clause-keeps
+returns-in_err-all-clause-keeps c = keeps_trans c.loop-item.invariant.keeps (keeps_trans c.in_ok-one.ensures.keeps c.in_err-all.ensures.keeps)
+
 pub loop-item-preserved : goal.loop-item-preserved
 loop-item-preserved c =
     let items = c.args.items.now in

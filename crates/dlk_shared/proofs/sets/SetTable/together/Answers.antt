@@ -13,6 +13,9 @@ bound_over-requires-clause-kids c = all_sets_kept c.in_ok-free.ensures.keeps c.a
 pub bound_over-requires-clause-empty : goal.bound_over-requires-clause-empty
 bound_over-requires-clause-empty c = means_kept c.in_ok-free.ensures.keeps c.requires.empty
 
+pub returns-in_err-bound-clause-keeps : goal.returns-in_err-bound-clause-keeps
+returns-in_err-bound-clause-keeps c = keeps_trans c.in_ok-free.ensures.keeps c.in_err-bound.ensures.keeps
+
 pub must_over-requires-clause-empty : goal.must_over-requires-clause-empty
 must_over-requires-clause-empty c = means_kept (keeps_trans c.in_ok-free.ensures.keeps c.in_ok-bound.ensures.keeps) c.requires.empty
 
@@ -22,6 +25,9 @@ must_over-requires-clause-own c = are_sets_kept (keeps_trans c.in_ok-free.ensure
 pub must_over-requires-clause-kids : goal.must_over-requires-clause-kids
 must_over-requires-clause-kids c =
     all_sets_kept (keeps_trans c.in_ok-free.ensures.keeps c.in_ok-bound.ensures.keeps) c.args.kids.now c.requires.kids
+
+pub returns-in_err-must-clause-keeps : goal.returns-in_err-must-clause-keeps
+returns-in_err-must-clause-keeps c = keeps_trans (keeps_trans c.in_ok-free.ensures.keeps c.in_ok-bound.ensures.keeps) c.in_err-must.ensures.keeps
 
 pub returns-clause-means : goal.returns-clause-means
 returns-clause-means c =

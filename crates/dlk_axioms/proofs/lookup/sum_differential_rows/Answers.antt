@@ -1,5 +1,5 @@
 use Rattle.std.proofs.Common.{refl}
-use Rattle.dlk_axioms.proofs.lookup.term_differential_rows.Goals as goal
+use Rattle.dlk_axioms.proofs.lookup.sum_differential_rows.Goals as goal
 
 pub returns : goal.returns
 returns c = refl

@@ -1,0 +1,5 @@
+use Rattle.std.proofs.Common.{refl}
+use Rattle.dlk_axioms.proofs.lookup.effect_rows.Goals as goal
+
+pub returns : goal.returns
+returns c = refl
