@@ -70,6 +70,8 @@ CHECKS = [
     Check("mypy", ("mypy",), ("mypy",), 300),
     Check("flake8", (PYTHON, "-m", "flake8", "src", "dev"), (f"{IMPORT}flake8",), 150),
     script("dev/definitions.py --check"),
+    script("dev/layers.py --check"),
+    script("dev/links.py"),
     script("dev/editors.py"),
     script("dev/edits.py --look"),
     script("dev/edits.py --silent --look"),
