@@ -70,15 +70,15 @@ CHECKS = [
     Check("mypy", ("mypy",), ("mypy",), 300),
     Check("flake8", (PYTHON, "-m", "flake8", "src", "dev"), (f"{IMPORT}flake8",), 150),
     script("dev/definitions.py --check"),
-    script("dev/layers.py --check"),
-    script("dev/links.py"),
+    script("dev/layers.py --check", seconds=40),
+    script("dev/links.py", seconds=40),
     script("dev/editors.py"),
     script("dev/edits.py --look"),
     script("dev/edits.py --silent --look"),
     script("dev/edits.py --consistent --look"),
     script("dev/counters.py"),
     script("dev/tried.py"),
-    script("dev/manual.py --check"),
+    script("dev/manual.py --check", seconds=60),
 ]
 # The packages that tests of dlkt want. A test that misses one is skipped by itself, and counted.
 PACKAGES = ("lark", "prompt_toolkit", "hypothesis", "z3")
