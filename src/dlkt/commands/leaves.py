@@ -38,13 +38,6 @@ def line_of(number: int, said: LeafAnswer) -> str:
     return ", ".join(part for part in parts if part)
 
 
-def object_of(number: int, said: LeafAnswer) -> dict[str, object]:
-    """What --json prints of a leaf."""
-    return {
-        "leaf": number, "answer": said.word, "values": said.values, "computed": said.computed, "by": said.by, "values_by": said.values_by,
-    }
-
-
 def names_of_solvers(wants_all: bool) -> list[str]:
     """The solvers to ask."""
     names = there()
@@ -79,5 +72,5 @@ def run(options: argparse.Namespace) -> int:
                 print(line_of(number, told[-1]), flush=True)
     all_valid = all(said.word == Word.VALID for said in told)
     if options.json:
-        print(json.dumps({"all_valid": all_valid, "leaves": [object_of(number, said) for number, said in enumerate(told, 1)]}))
+        print(json.dumps({"all_valid": all_valid, "leaves": [{"leaf": number, **said.as_object()} for number, said in enumerate(told, 1)]}))
     return 0 if all_valid else 1
