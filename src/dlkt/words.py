@@ -18,7 +18,7 @@ from typing import Collection, NamedTuple
 
 from dlkt import strategies
 from dlkt.calculus import AXIOMS, CONNECTIVES, DERIVES, PREMISES, STEPS
-from dlkt.program import Answer, Name, Refused, answer, complaint_of, has_report, position, program_of, read_bytes, refusal_in
+from dlkt.program import Answer, Name, Refused, add_options, answer, complaint_of, has_report, position, program_of, read_bytes, refusal_in
 from dlkt.strategies import Argument, Atom, Branch, Choice, Part, Repeat, Sequence
 from dlkt.terms import readable
 
@@ -368,7 +368,7 @@ def add_words(parser: argparse.ArgumentParser) -> None:
     """The words of the command."""
     parser.add_argument("model")
     parser.add_argument("strategy")
-    parser.add_argument("--dlk", metavar="PROGRAM", help="the program (that of this checkout)")
+    add_options(parser, "--dlk")
 
 
 def run(given: argparse.Namespace) -> int:

@@ -41,7 +41,7 @@ from pathlib import Path
 from typing import Any, Iterable, Iterator, Mapping, NamedTuple, Sequence
 
 from dlkt.commands.verify import at
-from dlkt.program import TERM_BEGINS, Refused, count, one_line, program_of, read_bytes, seconds
+from dlkt.program import TERM_BEGINS, Refused, add_options, one_line, program_of, read_bytes
 from dlkt.solvers import there
 from dlkt.verdict import Fault, Kind, Options, Source, Verdict, verdict_on
 
@@ -352,13 +352,11 @@ EXAMPLE = "dlkt batch examples/gallery -j 2"
 def add_words(parser: argparse.ArgumentParser) -> None:
     """The words of the command."""
     parser.add_argument("folders", nargs="+", metavar="FOLDER")
-    parser.add_argument("-j", dest="jobs", type=count, default=os.cpu_count() or 1, metavar="N", help="so many at a time")
+    add_options(parser, "-j", help="so many at a time")
     parser.add_argument("--no-search", dest="search", action="store_false", help="leave out the folders that have a model alone")
     parser.add_argument("--dask", metavar="ADDRESS", help="hand the proofs to the workers of this Dask scheduler")
     parser.add_argument("--against", metavar="TABLE", help="say what changed since this table was printed")
-    parser.add_argument("--seconds", type=seconds, default=20, metavar="N", help="for each leaf and solver (20)")
-    parser.add_argument("--json", action="store_true", help="print one object")
-    parser.add_argument("--dlk", metavar="PROGRAM", help="the program (that of this checkout)")
+    add_options(parser, "--seconds", "--json", "--dlk")
     parser.add_argument("--one", metavar="NAME", help=argparse.SUPPRESS)
 
 

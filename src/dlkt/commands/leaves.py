@@ -17,10 +17,9 @@ The exit status is 0 where all leaves are valid, else 1, and 2 where none could 
 
 import argparse
 import json
-import os
 
 from dlkt.leaves import POWER, WAY_OUT, LeafAnswer, asked, each_says_so, listed, scripts_of
-from dlkt.program import Refused, count, program_of, seconds
+from dlkt.program import Refused, add_options, program_of
 from dlkt.solvers import KINDS, Solvers, Word, there
 
 HELP = "asks the solvers for each leaf of a proof"
@@ -54,10 +53,7 @@ def add_words(parser: argparse.ArgumentParser) -> None:
     parser.add_argument("model")
     parser.add_argument("term")
     parser.add_argument("--all-solvers", action="store_true", help="wait for z3 and cvc5: a leaf is valid where both say so")
-    parser.add_argument("-j", dest="jobs", type=count, default=os.cpu_count() or 1, metavar="N", help="so many leaves at a time")
-    parser.add_argument("--seconds", type=seconds, default=20, metavar="N", help="for each leaf and solver (20)")
-    parser.add_argument("--json", action="store_true", help="print one object")
-    parser.add_argument("--dlk", metavar="PROGRAM", help="the program (that of this checkout)")
+    add_options(parser, "-j", "--seconds", "--json", "--dlk")
 
 
 def run(options: argparse.Namespace) -> int:

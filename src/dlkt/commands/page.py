@@ -31,7 +31,7 @@ from dlkt.commands.tree import UNTOLD, Drawing, Sequent, Table, Told, filled, pa
 from dlkt.commands.verify import GUARD_WHY, WHY, source_of
 from dlkt.layout import WIDTH
 from dlkt.leaves import listed
-from dlkt.program import Refused, answer, count, has_report, position, program_of, report_of, seconds
+from dlkt.program import Refused, add_options, answer, has_report, position, program_of, report_of
 from dlkt.strategies import Branch, Choice, Part
 from dlkt.terms import in_version_1
 from dlkt.typeset import formula
@@ -417,9 +417,7 @@ def add_words(parser: argparse.ArgumentParser) -> None:
     parser.add_argument("proof", metavar="PROOF", help="a strategy, or a term")
     parser.add_argument("-o", "--output", metavar="PAGE", default="-", help="where to write it (standard output)")
     parser.add_argument("--title", help="what the page is called")
-    parser.add_argument("--seconds", type=seconds, default=20, metavar="N", help="for each leaf and solver (20)")
-    parser.add_argument("-j", dest="jobs", type=count, default=os.cpu_count() or 1, metavar="N", help="so many leaves at a time")
-    parser.add_argument("--dlk", metavar="PROGRAM", help="the program (that of this checkout)")
+    add_options(parser, "--seconds", "-j", "--dlk")
 
 
 def run(options: argparse.Namespace) -> int:

@@ -36,7 +36,7 @@ from typing import Callable, Iterable, Sequence
 
 from dlkt.layout import laid_out_goal
 from dlkt.leaves import exported_alone, listed
-from dlkt.program import INTERRUPTED, Refused, program_of, seconds
+from dlkt.program import INTERRUPTED, Refused, add_options, program_of
 from dlkt.search.finding import Options, expand_line
 from dlkt.search.sketches import is_sketch
 from dlkt.session import APPLY, Failure, Proof, as_typed, changes
@@ -346,8 +346,8 @@ def add_words(parser: argparse.ArgumentParser) -> None:
     """The words of the command."""
     parser.add_argument("model", metavar="MODEL")
     parser.add_argument("script", metavar="SCRIPT", nargs="?", help="a script of `dlk session`, whose lines are run first")
-    parser.add_argument("--seconds", type=seconds, default=10, metavar="N", help="for each question to the solvers (10)")
-    parser.add_argument("--dlk", metavar="PROGRAM", help="the program (that of this checkout)")
+    add_options(parser, "--seconds", default=10, help="for each question to the solvers (10)")
+    add_options(parser, "--dlk")
 
 
 def run(given: argparse.Namespace) -> int:

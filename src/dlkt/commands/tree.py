@@ -22,25 +22,20 @@ import argparse
 import html
 import importlib.resources
 import json
-import pathlib
 import re
 import sys
 from typing import Callable, Iterable, NamedTuple, Sequence
 
 from dlkt import reader as texts
-from dlkt.calculus import PREMISES
+from dlkt.calculus import AXIOMATIC_RULES, PREMISES
 from dlkt.layout import laid_out
-from dlkt.program import Name, Refused, are_same_file, position, read_bytes
+from dlkt.program import Name, Refused, add_options, position, put_at, read_bytes, refuse_bad_output
 from dlkt.terms import Numbering, Step, Term, read, trees_in
 from dlkt.trees import BRACKETS, PROGRAM, ROWS, Tree, Trees, text
 from dlkt.words import Run, word_runs
 
 PAGES = importlib.resources.files("dlkt") / "pages"
 
-# The premise of each axiomatic rule over its symbols.
-AXIOMATIC = {
-    "G": "p(||)", "allgen": "p(||)", "mon": "p(||) -> q(||)", "CE": "p(||) <-> q(||)", "CT": "f(||) = g(||)", "CQ": "f(||) = g(||)",
-}
 # The operators of the formulas at which rules work, by the rules' names without L and R.
 RULE_WORDS = {
     "not": ("not",), "and": ("and",), "or": ("or",), "imply": ("imply",), "equiv": ("equiv",), "skolem": ("forall", "exists"),
@@ -253,7 +248,7 @@ class Goals:
                     raise Wrong(f"line {node.line}: {line.rule}({line.inside}) names no place of its goal") from fault
                 for kid, sequent in zip(node.kids, found):
                     kid.sequent = kid.sequent or sequent
-            if line is not None and line.word == "subst" and node.kids[0].kids and node.kids[0].name in AXIOMATIC:
+            if line is not None and line.word == "subst" and node.kids[0].kids and node.kids[0].name in AXIOMATIC_RULES:
                 goal = node.kids[0].kids[0]
                 goal.sequent = goal.sequent or self.premise_of_instance(node.kids[0].name, line.step.pairs or [])
             waiting.extend(node.kids)
@@ -319,7 +314,7 @@ class Goals:
 
     def premise_of_instance(self, name: str, pairs: Sequence[tuple[str, Tree]]) -> Sequent | None:
         """The premise of an axiomatic rule behind a substitution of these pairs, where each of its symbols has one."""
-        premise, replaced = texts.formula(AXIOMATIC[name], self.trees), dict(pairs)
+        premise, replaced = texts.formula(AXIOMATIC_RULES[name][0], self.trees), dict(pairs)
         if not premise.kids:
             return (), (replaced.get(text(premise), premise),)
         first, second = (replaced.get(text(symbol), symbol) for symbol in premise.kids)
@@ -462,18 +457,10 @@ def told_of(given: argparse.Namespace) -> Told:
     return told_by(runs, read_bytes(given.strategy))
 
 
-def refuse_bad_page(target: str, inputs: Iterable[Name]) -> None:
-    """Refuses a PAGE that is an input, or has something else than a page in it."""
-    if target == "-":
-        return
-    if any(are_same_file(target, name) for name in inputs):
-        raise Refused(f"{target} is an input, which isn't written over")
-    path = pathlib.Path(target)
-    if path.is_file():
-        with path.open("rb") as file:
-            first = file.read(len(FIRST_BYTES))
-        if first not in (b"", FIRST_BYTES):
-            raise Refused(f"{target} holds something else than a page: it isn't written over; name another file, or remove it")
+def refuse_bad_page(target: str, inputs: Sequence[Name]) -> None:
+    """Refuses a PAGE that is an input, can't be written, or has something else than a page in it."""
+    if target != "-":
+        refuse_bad_output(target, inputs, [FIRST_BYTES], "a page")
 
 
 def write_page(target: str, said: str) -> None:
@@ -482,7 +469,7 @@ def write_page(target: str, said: str) -> None:
     if target == "-":
         sys.stdout.buffer.write(data)
     else:
-        pathlib.Path(target).write_bytes(data)
+        put_at(data, target)
 
 
 HELP = "draws the proof of a term as one page for a browser"
@@ -496,7 +483,7 @@ def add_words(parser: argparse.ArgumentParser) -> None:
     parser.add_argument("--model", help="the model of the term, for the words of a strategy")
     parser.add_argument("--strategy", help="the strategy that made the term: the lines of a word become one node")
     parser.add_argument("--depth", type=int, default=12, metavar="N", help="below this depth the lines are folded at first (12)")
-    parser.add_argument("--dlk", metavar="PROGRAM", help="the program (that of this checkout)")
+    add_options(parser, "--dlk")
 
 
 def run(given: argparse.Namespace) -> int:
