@@ -196,7 +196,7 @@ class Pages(Page):
 
     def test_a_branch_of_the_wrong_length(self):
         said = "".join(self.well_made(self.made(INCREMENT, "implyR(1); step(1); <(leaf, leaf)\n").stdout).said)
-        for text in ("the strategy fails", "WrongCount: the branch has 2 parts, and there are 1 goal", "it meets goal 1"):
+        for text in ("the strategy fails", "WrongCount: the branch has 2 parts, and there is 1 goal", "it meets goal 1"):
             self.assertIn(text, said)
 
     def test_a_term(self):

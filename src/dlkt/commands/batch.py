@@ -2,28 +2,10 @@
 
     dlkt batch FOLDER.. [-j N] [--no-search] [--dask ADDRESS] [--against TABLE] [--seconds N] [--json] [--dlk PROGRAM]
 
-A proof is a folder with a `model` and a `strategy` in it, or with a `model` and a `term`; each one below the named folders is looked at,
-also behind a link, N at a time (as many as there are processors). Where a name has what ends a line, an escape stands for it. Of a
-strategy the term is made anew, in a place of its own; nothing is written into the folders. Verified is what dlkt verify says is:
-closed, guarded, and all leaves valid by the solvers that are there. A table is printed, a line a proof, in the order of the names:
-
-    verdict       proof     guard       leaves   lines  seconds  folder
-    verified      closed    guarded     6/6        862      0.4  car
-    not-verified  refused   -           -            -      0.1  crane
-    # crane: strategy:3:7: fails: NoMatch
-    1 of 2 verified
-
-`6/6` are the leaves that are valid, and all. Behind a `#` stands why a proof isn't verified. With --against and a table that was printed
-before it is said last what changed since, but for the times. --json prints one object in place of all this.
-
-A folder with a `model` alone counts, too, but with --no-search or --dask: a strategy is searched for (docs/AUTO.md), for a minute at most.
-A strategy that is a sketch is turned into a plain one.
-
-With --dask the proofs are tasks of a Dask scheduler (Debian's python3-distributed) at this address, each with the bytes of its folder; what a
-worker had that is lost is done again. Workers need this package, the solvers, and the program: that of DLK there, or of the same path as here.
-
-The exit status is 0 where all are verified, 1 where one isn't, 2 where nothing could be looked at, 130 behind control-C, which ends all.
-Nothing of this is proved, but what the program proves.
+A proof is a folder with a `model` and a `strategy` in it, or with a `model` and a `term`; each one below the named folders is looked at, also behind a
+link. What is looked at, the table, --against, --dask and the exit statuses are told in docs/INSTALL.md ("Strategies in one table"). Where a name has what
+ends a line, an escape stands for it. Behind control-C, or where the process is ended, all ends that it started. Nothing of this is proved, but what the
+program proves.
 """
 
 import argparse
@@ -78,12 +60,6 @@ def files_of(folder: Path) -> dict[str, bytes]:
     return {name: read_bytes(folder / name) for name in names}
 
 
-def verdict_of(files: Mapping[str, bytes], options: Options) -> Verdict:
-    """The verdict on a proof of these files."""
-    kind = Kind.STRATEGY if "strategy" in files else Kind.TERM
-    return verdict_on(Source("model", files["model"]), Source(str(kind), files[kind]), options._replace(kind=kind))
-
-
 def refusal_in_short(fault: Fault) -> str:
     """Why an input is refused, and where."""
     if fault.place is None or fault.text.startswith(("refused: line", "refused: other-conclusion")):
@@ -108,9 +84,9 @@ def row_of(name: str, verdict: Verdict, took: str) -> Row:
 
 def looked_at(name: str, files: Mapping[str, bytes], options: Options) -> Row:
     """The line of a proof, also where nothing can be said of it."""
-    begin = time.monotonic()
+    begin, kind = time.monotonic(), Kind.STRATEGY if "strategy" in files else Kind.TERM
     try:
-        verdict = verdict_of(files, options)
+        verdict = verdict_on(Source("model", files["model"]), Source(str(kind), files[kind]), options._replace(kind=kind))
         return row_of(name, verdict, f"{time.monotonic() - begin:.1f}")
     except Refused as why:
         return unknown(name, str(why))

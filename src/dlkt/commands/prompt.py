@@ -17,13 +17,8 @@ session`, whose lines are run first. Other lines:
 
 A line goes on where a bracket, quotes or a comment is open at its end, or where it ends in `;`, `,` or `|`; an empty line ends it in any case.
 
-After each line the program runs the whole script so far, anew: nothing is shown but what it says. What fails leaves no trace in the script. It works on
-a copy of MODEL, and writes over no file but those that it wrote itself. It ends with `quit` or control-D; what isn't saved then is printed. Control-C
-clears the line at a terminal, and stops what is at work; where lines are read from elsewhere it ends the prompt. The exit status is 0 where no goals
-are left, 1 where some are, 2 where an input is refused, and 130 behind control-C.
-
-Where standard input is no terminal, lines are read from it, and shown as a terminal would show them. At a terminal it needs prompt_toolkit (Debian:
-python3-prompt-toolkit), and completes with Tab: words of strategies, and names of the model in quotes.
+What it keeps, and what it needs at a terminal, is told in docs/FILES.md ("A prompt"). Where standard input is no terminal, lines are read from it, and
+shown as a terminal would show them.
 """
 
 import argparse

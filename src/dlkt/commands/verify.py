@@ -75,16 +75,26 @@ def underlined(place: Spot) -> list[str]:
     return [f"    {place.source[begin : begin + LONGEST]}", f"    {place.caret[begin:]}"]
 
 
+def why_refused(fault: Fault) -> str:
+    """Why a model or a proof is refused."""
+    if fault.parts is not None and fault.count_of_goals is not None:
+        there = "there is" if fault.count_of_goals == 1 else "there are"
+        return f"{fault.why}: the branch has {counted(fault.parts, 'part')}, and {there} {counted(fault.count_of_goals, 'goal')}"
+    return f"{fault.why}: {WHY[fault.why]}" if fault.why in WHY else fault.why
+
+
+def why_unguarded(guard: Guard) -> str:
+    """What stands behind the guard's words on a line that isn't guarded."""
+    said = GUARD_WHY.get((guard.why or "").split(" ")[0], "")
+    return f": {said}" if said else ""
+
+
 def lines_of_fault(fault: Fault) -> list[str]:
     """The lines of a refusal."""
     if fault.place is None:
         return [f"{one_line(fault.file)}: {fault.text}"]
-    said = f"{fault.why}: {WHY[fault.why]}" if fault.why in WHY else fault.why
-    if fault.parts is not None and fault.count_of_goals is not None:
-        there = "there is" if fault.count_of_goals == 1 else "there are"
-        said = f"{fault.why}: the branch has {counted(fault.parts, 'part')}, and {there} {counted(fault.count_of_goals, 'goal')}"
     is_failure = fault.text.startswith("refused: fails")
-    lines = [f"{at(fault.place)}: {'fails' if is_failure else 'refused'}: {said}", *underlined(fault.place)]
+    lines = [f"{at(fault.place)}: {'fails' if is_failure else 'refused'}: {why_refused(fault)}", *underlined(fault.place)]
     several = len(fault.goals) > 1
     met = "it meets" if fault.parts is not None else "it fails on"
     for number, goal in enumerate(fault.goals[: None if fault.parts else MOST_SHOWN], 1):
@@ -125,8 +135,7 @@ def lines_of_guard(guard: Guard) -> list[str]:
     """The lines of what the guard says."""
     if guard.is_guarded:
         return ["guarded"]
-    said = GUARD_WHY.get((guard.why or "").split(" ")[0], "")
-    lines = [guard.text + (f": {said}" if said else "")]
+    lines = [guard.text + why_unguarded(guard)]
     if guard.made_by:
         place = guard.made_by.place
         return [*lines, f"{at(place)}: unguarded: {guard.made_by.word} made line {guard.line}", *underlined(place)]
