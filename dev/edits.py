@@ -1,7 +1,7 @@
 #!/usr/bin/env python3
 """Tries the wrong bodies of the crates: the prover must refuse each.
 
-    python3 dev/edits.py [NAME ..] [--room FOLDER] [--jobs N] [--table]
+    python3 dev/edits.py [NAME ..] [--room FOLDER] [--jobs N]
     python3 dev/edits.py [NAME ..] --together
     python3 dev/edits.py [NAME ..] --look
     python3 dev/edits.py [NAME ..] --starved [--together | --look]
@@ -23,7 +23,7 @@ Behind the run a line an edit says what came of it:
     dlk_memo/looks_thrice: NOT REFUSED
 
 with the place, and the clause or other condition that is not proved there. `for a limit` stands where the prover gave up without a verdict,
-and `bad` where the edit can't be applied or read, so that it says nothing. Last come the sums by crate; with --table as rows of a table.
+and `bad` where the edit can't be applied or read, so that it says nothing. Last come the sums by crate.
 The exit status is 0 where each edit is refused, 1 where one isn't, and 2 where they could not be tried. Of each crate whose wrong bodies were all
 refused a row is written to dev/tried.txt: by that `.ci/run` sees which crates changed since (`dev/tried.py`).
 
@@ -218,14 +218,6 @@ def room_of(folder: str | None, kind: str = "edits") -> Path:
     return room
 
 
-def remove(path: Path) -> None:
-    """Removes a file or a folder."""
-    if path.is_dir():
-        shutil.rmtree(path)
-    else:
-        path.unlink()
-
-
 def copy(room: Path, edits: Edits) -> None:
     """Puts the crates and what they stand on into the room as they are here, and the edits of the crates where the gate finds them."""
     every = with_those_below(edits)
@@ -240,7 +232,7 @@ def copy(room: Path, edits: Edits) -> None:
         for part in copied.glob("*") if copied.is_dir() else ():
             # what was proved there serves again
             if part.name != "out":
-                remove(part)
+                shutil.rmtree(part) if part.is_dir() else part.unlink()
         shutil.copytree(TOP / "crates" / name, copied, ignore=shutil.ignore_patterns("out", *FOLDERS), dirs_exist_ok=True)
     for name, files in edits.items():
         folder = room / "crates" / name / "must-fail"
@@ -364,16 +356,11 @@ def sums(crate: str, every: list[Tried]) -> list[int]:
     return [counts[kind] for kind in KINDS]
 
 
-def tell_sums(names: list[str], every: list[Tried], as_table: bool) -> None:
+def tell_sums(names: list[str], every: list[Tried]) -> None:
     """Prints the sums by crate, and of all."""
-    if as_table:
-        print(f"| crate | edits | {' | '.join(KINDS)} |\n|---|{'---|' * (len(KINDS) + 1)}")
     for name in [*names, "all"]:
         of = sums(name, every) if name != "all" else [sum(it) for it in zip(*(sums(name, every) for name in names))]
-        if as_table:
-            print(f"| {name if name == 'all' else f'`{name}`'} | {sum(of)} | {' | '.join(map(str, of))} |")
-        else:
-            print(f"{name}: {sum(of)} edits, " + ", ".join(f"{number} {kind}" for number, kind in zip(of, KINDS) if number or kind == "refused"))
+        print(f"{name}: {sum(of)} edits, " + ", ".join(f"{number} {kind}" for number, kind in zip(of, KINDS) if number or kind == "refused"))
 
 
 def try_consistent(given: argparse.Namespace) -> int:
@@ -396,7 +383,6 @@ def parser() -> argparse.ArgumentParser:
     words.add_argument("names", nargs="*", metavar="NAME", help="a crate; none: all that have edits; with --consistent a change")
     words.add_argument("--room", metavar="FOLDER", help="where the copy of the crates stands")
     words.add_argument("--jobs", metavar="N", type=int, default=len(os.sched_getaffinity(0)), help="how many are tried at a time")
-    words.add_argument("--table", action="store_true", help="the sums as rows of a table")
     words.add_argument("--together", action="store_true", help="many in one check, each in another function")
     words.add_argument("--look", action="store_true", help="only say which edits can't be applied")
     words.add_argument("--starved", action="store_true", help="bodies that answer want of memory in place of a refusal")
@@ -422,7 +408,7 @@ def try_edits(given: argparse.Namespace) -> bool:
     names = {name: list(files) for name, files in edits.items()} or {name: [it.name for it in bodies] for name, bodies in starved.items()}
     every = tried(room, names, max(1, given.jobs), given.together)
     print("\n".join(it.line() for it in every), flush=True)
-    tell_sums(list(names), every, given.table)
+    tell_sums(list(names), every)
     tried_file.put([row for row in rows if all(it.kind in KINDS[:2] for it in every if it.crate == row.crate)])
     return all(it.kind in KINDS[:2] for it in every)
 

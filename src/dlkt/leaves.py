@@ -119,18 +119,14 @@ def exported_alone(program: str, sequent: str) -> Script:
     return Script(None if scripts is None else scripts[0], pairs)
 
 
-def texts_of_leaves(program: str, model: Name, term: Name) -> list[str]:
-    """The leaves of a term as texts."""
-    return printed_report(answer(program, "check", model, term)).leaves
-
-
 def scripts_of(program: str, model: Name, term: Name, texts: Sequence[str] | None = None) -> list[Script]:
     """The question of each leaf of a term, whose texts may be known."""
     scripts = exported(program, model, term)
+    if not texts and not scripts:  # a script without a leaf may also be that of a program that isn't dlk
+        texts = printed_report(answer(program, "check", model, term)).leaves
     if scripts is None:
-        return [exported_alone(program, text) for text in texts or texts_of_leaves(program, model, term)]
-    # A script without a leaf may also be that of a program that isn't dlk: then the report is asked, too.
-    wanted = len(texts if texts is not None else scripts or texts_of_leaves(program, model, term))
+        return [exported_alone(program, text) for text in texts or ()]
+    wanted = len(scripts if texts is None else texts)
     if len(scripts) != wanted:
         raise Refused(f"the program lists {wanted} leaves, and writes {len(scripts)} for a solver")
     return [Script(script) for script in scripts]

@@ -27,9 +27,8 @@ from dlkt.program import TERM_BEGINS, Refused, add_options, one_line, program_of
 from dlkt.solvers import there
 from dlkt.verdict import Fault, Kind, Options, Source, Verdict, verdict_on
 
-WIDTHS = (14, 10, 12, 7, 7, 9)
+LINE = "{:<13} {:<9} {:<11} {:<6} {:>5}  {:>7}  {}"
 HEAD = ("verdict", "proof", "guard", "leaves", "lines", "seconds", "folder")
-NUMBERS = ("lines", "seconds")
 WORD, OTHER_WORD, NONE = "verified", "not-verified", "-"
 PATIENCE = 10  # seconds in which a scheduler must answer
 MOST_TRIES = 10  # how often a proof whose worker was lost, or whose task failed, is looked at again
@@ -257,24 +256,6 @@ def row_by_worker(name: str, work: Any) -> Row:
 
 # The table
 
-def line_of(cells: Sequence[str]) -> str:
-    """A line of the table. Numbers stand on the right of their columns."""
-    before = [
-        f"{cell:>{width - 2}}  " if head in NUMBERS else f"{cell:<{width}}" for cell, width, head in zip(cells, WIDTHS, HEAD)
-    ]
-    return "".join(cell if cell.endswith(" ") else f"{cell} " for cell in before) + cells[-1]
-
-
-def lines_of(row: Row) -> list[str]:
-    """The lines of a proof."""
-    return [line_of(row[: len(HEAD)]), *([f"# {row.folder}: {row.why}"] if row.why else [])]
-
-
-def last_line(rows: Sequence[Row]) -> str:
-    """How many are verified."""
-    return f"{sum(row.verdict == WORD for row in rows)} of {len(rows)} verified"
-
-
 def rows_in(name: str) -> list[Row]:
     """The rows of a table that was printed before."""
     lines = [line for line in read_bytes(name).decode("utf-8", "replace").split("\n") if line.strip() and not line.startswith("#")]
@@ -312,12 +293,12 @@ def object_of(row: Row) -> dict[str, Any]:
 
 def print_table(rows: Iterable[Row]) -> list[Row]:
     """Prints the table, a line as it comes, and gives its rows."""
-    print(line_of(HEAD), flush=True)
+    print(LINE.format(*HEAD), flush=True)
     told = []
     for row in rows:
         told.append(row)
-        print("\n".join(lines_of(row)), flush=True)
-    print(last_line(told))
+        print(LINE.format(*row), *([f"# {row.folder}: {row.why}"] if row.why else []), sep="\n", flush=True)
+    print(f"{sum(row.verdict == WORD for row in told)} of {len(told)} verified")
     return told
 
 

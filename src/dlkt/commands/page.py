@@ -29,7 +29,6 @@ from dlkt.leaves import listed
 from dlkt.program import Refused, add_options, answer, has_report, position, program_of, report_of
 from dlkt.strategies import Branch, Choice, Part
 from dlkt.terms import in_version_1
-from dlkt.typeset import formula
 from dlkt.verdict import Fault, Guard, Kind, Leaf, Options, Proof, Spot, Verdict, counted, verdict_on
 from dlkt.words import Run, runs_in
 
@@ -174,8 +173,8 @@ def title_of(model: str) -> str:
 # The parts of the page
 
 def source(data: bytes) -> str:
-    """A text as it was written, with its comments set apart."""
-    return formula(data.decode("utf-8", "replace"))
+    """A text as it was written, which the page's script sets."""
+    return f'<span class="text">{html.escape(data.decode("utf-8", "replace"))}</span>'
 
 
 def model(data: bytes) -> str:
@@ -214,7 +213,7 @@ def said_of_lemmas(proof: Proof) -> str:
     """Which lines of a linked proof are those of lemmas."""
     rows = "".join(
         f"<div>lines {lemma.first:,} to {lemma.last:,}: {counted(lemma.goals, 'goal')} proved with "
-        f"<code>{formula(lemma.conclusion)}</code></div>" for lemma in proof.lemmas
+        f'<code class="text">{html.escape(lemma.conclusion)}</code></div>' for lemma in proof.lemmas
     )
     return f"<b>linked</b>. This proof has lemmas that were proved by themselves and put in: {rows}"
 

@@ -13,12 +13,12 @@ import os
 import sys
 import time
 from pathlib import Path
-from typing import TYPE_CHECKING, Any, Sequence
+from typing import TYPE_CHECKING, Any, Callable, Sequence
 
 from dlkt.archive import is_archive
 from dlkt.leaves import NOT_ASKED, POWER, WAY_OUT, listed
 from dlkt.program import TERM_BEGINS, Refused, add_options, numbered, one_line, program_of, put_at, read_bytes, refuse_bad_output, shown
-from dlkt.verdict import NOTHING_KNOWN, OPEN, REFUTED, Fault, Guard, Kind, Leaf, Maker, Options, Piece, Proof, Source, Spot, Verdict
+from dlkt.verdict import NOTHING_KNOWN, OPEN, REFUTED, Fault, Guard, Hint, Kind, Leaf, Maker, Options, Piece, Proof, Source, Spot, Verdict
 from dlkt.verdict import counted, is_said_of, verdict_on
 
 if TYPE_CHECKING:
@@ -142,17 +142,15 @@ def lines_of_guard(guard: Guard) -> list[str]:
     return lines
 
 
+SAID: dict[type, Callable[[Any], list[str]]] = {
+    Proof: lines_of_proof, Fault: lines_of_fault, Leaf: lines_of_leaf, Guard: lines_of_guard,
+    Hint: lambda hint: [f"{at(hint.place)}: hint: {hint.text}"],
+}
+
+
 def lines_of(piece: Piece) -> list[str]:
     """The lines of what was found."""
-    if isinstance(piece, Proof):
-        return lines_of_proof(piece)
-    if isinstance(piece, Fault):
-        return lines_of_fault(piece)
-    if isinstance(piece, Leaf):
-        return lines_of_leaf(piece)
-    if isinstance(piece, Guard):
-        return lines_of_guard(piece)
-    return [f"{at(piece.place)}: hint: {piece.text}"]
+    return SAID[type(piece)](piece)
 
 
 def last_line(verdict: Verdict) -> str:
@@ -163,12 +161,6 @@ def last_line(verdict: Verdict) -> str:
         return "not verified: " + "; ".join([*reasons, f"and {more} more"] if more else reasons)
     leaves_said = f"{counted(len(verdict.leaves), 'leaf')} valid" if verdict.leaves else "no leaves"
     return f"verified: closed, guarded, {leaves_said}. It rests on {', '.join(verdict.rests_on)}"
-
-
-def lines_of_verdict(verdict: Verdict) -> list[str]:
-    """All lines of a verdict."""
-    pieces: list[Piece] = [verdict.found, *verdict.leaves, *([verdict.guard] if verdict.guard else []), *verdict.hints]
-    return [*(line for piece in pieces for line in lines_of(piece)), last_line(verdict)]
 
 
 # The object that --json prints
