@@ -17,29 +17,14 @@ import re
 import sys
 from pathlib import Path
 
-TOP = Path(__file__).resolve().parent.parent
+from checkout import TOP, with_those_below
+
 MADE = Path("crates/dlk_store/src/steps.rt")
 OPENED = Path("crates/dlk/src/main.rt")
 BOUND = re.compile(r"^\s*use std::sync::ledger::Ledger;$")
 LEDGER = re.compile(r"\bledger\b")
 BLANK = re.compile(r"\bBlank\s*::\s*new\b")
 COUNTER = re.compile(r"\bSteps\s*(?:::\s*<[^>]*>\s*)?::\s*new\b")
-
-
-def crates_below(name: str) -> list[str]:
-    """The crate, and all that it stands on and that this repository has."""
-    below = {}
-    for line in (TOP / "crates.txt").read_text().splitlines():
-        crate, colon, rest = line.split("#")[0].partition(":")
-        if colon:
-            below[crate.split()[0]] = rest.split()
-    found, left = set(), [name]
-    while left:
-        crate = left.pop()
-        if crate in below and crate not in found:
-            found.add(crate)
-            left.extend(below[crate])
-    return sorted(found)
 
 
 def code_of(crate: str) -> list[Path]:
@@ -68,7 +53,7 @@ def faults_of(file: Path, lines: list[str]) -> list[str]:
 def main() -> int:
     """Reads the code of the program."""
     argparse.ArgumentParser(description=__doc__, formatter_class=argparse.RawDescriptionHelpFormatter).parse_args()
-    crates = crates_below("dlk")
+    crates = sorted(with_those_below(["dlk"]))
     faults, seen = [], set()
     for crate in crates:
         for file in code_of(crate):

@@ -25,7 +25,6 @@ ROOT = Path(__file__).resolve().parent.parent
 sys.path.insert(0, str(ROOT / "src"))
 
 from dlkt import calculus, trees  # noqa: E402  (behind the path)
-from dlkt.commands import tree as prooftree  # noqa: E402
 
 Sets = dict[str, set[str]]
 
@@ -279,7 +278,7 @@ def differences() -> Iterator[str]:
     pairs += [("exit statuses", "man/dlk.1", *statuses())]
     pairs += [("rules that are drawn", "docs/CALCULUS.md", words["rules"], set(drawings())),
               ("words of nodes", "src/dlkt/trees.py", words["words of nodes"], set(trees.ROWS)),
-              ("axiomatic rules", "src/dlkt/commands/tree.py", words["axiomatic rules"], set(prooftree.AXIOMATIC)),
+              ("axiomatic rules", "src/dlkt/calculus.py", words["axiomatic rules"], set(calculus.AXIOMATIC_RULES)),
               ("axioms", "src/dlkt/calculus.py", words["axioms"], set(calculus.AXIOMS)),
               ("names of the library", "src/dlkt/calculus.py", words["names of the library"], set(calculus.LIBRARY)),
               ("atoms", "src/dlkt/calculus.py", words["atoms"], {*calculus.PREMISES, *calculus.OTHER_WORDS}),

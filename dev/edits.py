@@ -1,7 +1,7 @@
 #!/usr/bin/env python3
 """Tries the wrong bodies of the crates: the prover must refuse each.
 
-    python3 dev/edits.py [NAME ..] [--room FOLDER] [--jobs N] [--table]
+    python3 dev/edits.py [NAME ..] [--room FOLDER] [--jobs N]
     python3 dev/edits.py [NAME ..] --together
     python3 dev/edits.py [NAME ..] --look
     python3 dev/edits.py [NAME ..] --starved [--together | --look]
@@ -13,10 +13,9 @@ others stand in `crates/NAME/edits/`. This tries both, of the named crates or of
 checkout. Who changes a crate tries its edits before the change lands.
 
 They are tried as the gate tries its own, in a copy of these crates and of those below them, in the folder that --room names or else in one
-below TMPDIR, --jobs of them at a time, or as many as there are processors. What the crates stand on is proved first. Where the toolchain has
-`rt ci NAME ..`, that is what runs; where it has only a gate for all crates, `rt must-fail NAME` runs, crate by crate. What was proved or tried
-before isn't done again while the files are the same: so a run that was broken off goes on where it was, crate by crate, when it is started
-again. A run with --silent or --starved in the same folder takes the place of what was tried before.
+below TMPDIR, --jobs of them at a time, or as many as there are processors, by `rt ci NAME ..`. What was proved or tried before isn't done again
+while the files are the same: so a run that was broken off goes on where it was. A run with --silent or --starved in the same folder takes the place
+of what was tried before.
 
 Behind the run a line an edit says what came of it:
 
@@ -24,7 +23,7 @@ Behind the run a line an edit says what came of it:
     dlk_memo/looks_thrice: NOT REFUSED
 
 with the place, and the clause or other condition that is not proved there. `for a limit` stands where the prover gave up without a verdict,
-and `bad` where the edit can't be applied or read, so that it says nothing. Last come the sums by crate; with --table as rows of a table.
+and `bad` where the edit can't be applied or read, so that it says nothing. Last come the sums by crate.
 The exit status is 0 where each edit is refused, 1 where one isn't, and 2 where they could not be tried. Of each crate whose wrong bodies were all
 refused a row is written to dev/tried.txt: by that `.ci/run` sees which crates changed since (`dev/tried.py`).
 
@@ -54,7 +53,6 @@ and 2 where they could not be tried.
 """
 
 import argparse
-import hashlib
 import json
 import os
 import re
@@ -63,15 +61,14 @@ import subprocess
 import sys
 import tempfile
 from collections import Counter
-from concurrent.futures import ThreadPoolExecutor
 from pathlib import Path
-from typing import Iterable, NamedTuple
+from typing import NamedTuple
 
 import consistent
 import rounds
 import tried as tried_file
+from checkout import TOP, Broken, changed, crates, sum_of, tell_faults, with_those_below
 
-TOP = Path(__file__).resolve().parent.parent
 FOLDERS = ("must-fail", "edits")
 SILENT = TOP / "dev" / "silent"
 AHEAD = re.compile(r"rt: \w+(?: proved| NOT PROVED| is kept|: its tests are|: trying its|: \d+ of its)")
@@ -86,10 +83,6 @@ KINDS = ("refused", "for a limit", "bad", "NOT REFUSED", "not tried")
 
 
 Edits = dict[str, dict[str, Path]]
-
-
-class Refused(Exception):
-    """Why the edits could not be tried, in one line."""
 
 
 class Tried(NamedTuple):
@@ -123,21 +116,23 @@ class Starved(NamedTuple):
 Found = dict[tuple[str, str], Tried]
 
 
-def crates() -> dict[str, list[str]]:
-    """The crates of crates.txt, lowest first, each with the libraries of its line."""
-    rows = [line.split(":") for line in (TOP / "crates.txt").read_text().splitlines() if ":" in line and not line.startswith("#")]
-    return {name.split()[0]: below.split() for name, below in rows}
-
-
 def edits_of(crate: str, silent: bool = False) -> dict[str, Path]:
     """The edits of a crate by name, or its bodies of which no clause was thought to speak."""
     found: dict[str, Path] = {}
     for folder in [SILENT / crate] if silent else [TOP / "crates" / crate / it for it in FOLDERS]:
         for edit in sorted(folder.glob("*.edit")):
             if edit.stem in found:
-                raise Refused(f"{crate} has two edits named {edit.stem}")
+                raise Broken(f"{crate} has two edits named {edit.stem}")
             found[edit.stem] = edit
     return found
+
+
+def named(names: list[str]) -> list[str]:
+    """The named crates, or all, lowest first."""
+    for name in names:
+        if name not in crates():
+            raise Broken(f"{name} is no crate of crates.txt")
+    return [name for name in crates() if not names or name in names]
 
 
 def closing(text: str, at: int) -> int:
@@ -176,11 +171,8 @@ def refusals(crate: str, types: set[str]) -> list[Starved]:
 
 def refusals_of(names: list[str]) -> dict[str, list[Starved]]:
     """The refusals of the named crates that have some, or of all, lowest first, without those of tests."""
-    for name in names:
-        if name not in crates():
-            raise Refused(f"{name} is no crate of crates.txt")
     types = faults()
-    every = {name: refusals(name, types) for name in crates() if not names or name in names}
+    every = {name: refusals(name, types) for name in named(names)}
     return {name: bodies for name, bodies in every.items() if bodies}
 
 
@@ -209,45 +201,21 @@ def list_starved(every: dict[str, list[Starved]]) -> None:
 
 def chosen(names: list[str], silent: bool = False) -> Edits:
     """The edits that are tried, by crate, lowest first: of the named crates that have some, or of all."""
-    every = crates()
-    for name in names:
-        if name not in every:
-            raise Refused(f"{name} is no crate of crates.txt")
-    found = {name: edits_of(name, silent) for name in every if not names or name in names}
+    found = {name: edits_of(name, silent) for name in named(names)}
     return {name: edits for name, edits in found.items() if edits}
-
-
-def with_those_below(names: Iterable[str]) -> list[str]:
-    """The crates and all that they stand on, lowest first."""
-    every, left = crates(), list(names)
-    found: set[str] = set()
-    while left:
-        name = left.pop()
-        if name in every and name not in found:
-            found.add(name)
-            left += every[name]
-    return [name for name in every if name in found]
 
 
 def room_of(folder: str | None, kind: str = "edits") -> Path:
     """The folder of the copy, made where it isn't there. One that isn't ours is refused."""
     room = Path(folder or Path(tempfile.gettempdir()) / f"dlk-{kind}.{os.getuid()}").absolute()
     if room == TOP or TOP in room.parents:
-        raise Refused(f"{room} lies in this checkout, where the gate would find it: name a folder outside")
+        raise Broken(f"{room} lies in this checkout, where the gate would find it: name a folder outside")
     mark = room / f"of-dev-{kind}"
     if room.exists() and (not mark.exists() or room.stat().st_uid != os.getuid()):
-        raise Refused(f"{room} is there, and not made by this script")
+        raise Broken(f"{room} is there, and not made by this script")
     room.mkdir(mode=0o700, parents=True, exist_ok=True)
     mark.touch()
     return room
-
-
-def remove(path: Path) -> None:
-    """Removes a file or a folder."""
-    if path.is_dir():
-        shutil.rmtree(path)
-    else:
-        path.unlink()
 
 
 def copy(room: Path, edits: Edits) -> None:
@@ -264,7 +232,7 @@ def copy(room: Path, edits: Edits) -> None:
         for part in copied.glob("*") if copied.is_dir() else ():
             # what was proved there serves again
             if part.name != "out":
-                remove(part)
+                shutil.rmtree(part) if part.is_dir() else part.unlink()
         shutil.copytree(TOP / "crates" / name, copied, ignore=shutil.ignore_patterns("out", *FOLDERS), dirs_exist_ok=True)
     for name, files in edits.items():
         folder = room / "crates" / name / "must-fail"
@@ -287,26 +255,22 @@ def told(crate: str, name: str, text: str) -> Tried:
     return Tried(crate, name, kind, "" if kind == "NOT REFUSED" else f": {text.partition(': ')[2]}")
 
 
-def started_in(folder: Path, words: list[str], more: dict[str, str] | None = None) -> "subprocess.Popen[str]":
-    """A run in a folder, with one stream for all that it says, and more in its environment."""
-    return subprocess.Popen(
-        words, cwd=folder, env={**os.environ, **(more or {})}, stdin=subprocess.DEVNULL, stdout=subprocess.PIPE, stderr=subprocess.STDOUT, text=True,
-        errors="replace",
-    )
-
-
 def ran_in(folder: Path, *words: str) -> tuple[int, str]:
     """How a run in a folder ends, and what it said."""
-    with started_in(folder, list(words)) as run:
-        said, _ = run.communicate()
-    return run.returncode, said
+    run = subprocess.run(
+        words, cwd=folder, stdin=subprocess.DEVNULL, stdout=subprocess.PIPE, stderr=subprocess.STDOUT, text=True, errors="replace", check=False
+    )
+    return run.returncode, run.stdout
 
 
 def tried_by_gate(room: Path, names: list[str], jobs: int) -> Found:
     """Tries the edits of the crates by the gate of these crates, so many at a time, and gives what came of each. It tells on the way how far it is."""
     last = "rt said nothing"
     found: Found = {}
-    with started_in(room, ["rt", "ci", *names], {"RT_JOBS": str(jobs)}) as run:
+    with subprocess.Popen(
+        ["rt", "ci", *names], cwd=room, env={**os.environ, "RT_JOBS": str(jobs)}, stdin=subprocess.DEVNULL, stdout=subprocess.PIPE,
+        stderr=subprocess.STDOUT, text=True, errors="replace",
+    ) as run:
         for line in map(str.rstrip, run.stdout or ()):
             said, last = SAID.match(line), line or last
             if said:
@@ -314,43 +278,24 @@ def tried_by_gate(room: Path, names: list[str], jobs: int) -> Found:
             elif AHEAD.match(line):
                 print(line.removeprefix("rt: "), file=sys.stderr, flush=True)
     if not found:
-        raise Refused(f"rt ci tried no edit: {last}")
+        raise Broken(f"rt ci tried no edit: {last}")
     return found
 
 
-def sum_of(room: Path, name: str) -> str:
+def state_of(room: Path, name: str) -> str:
     """A sum of all that the verdicts on a crate's edits come from: its files and edits, what it stands on, and the toolchain."""
-    whole = hashlib.sha256(ran_in(room, "rt", "version")[1].encode())
-    for crate in with_those_below([name]):
-        folder = room / "crates" / crate
-        for file in sorted(it for it in folder.rglob("*") if it.is_file() and it.relative_to(folder).parts[0] != "out"):
-            if crate == name or "must-fail" not in file.parts:
-                whole.update(str(file.relative_to(room)).encode() + b"\0" + file.read_bytes() + b"\0")
-    return whole.hexdigest()
-
-
-def tried_alone(room: Path, name: str) -> list[Tried]:
-    """Tries the edits of one crate, and gives what came of each: from a run before, where nothing has changed since."""
-    kept, key = room / f"{name}.tried", sum_of(room, name)
-    if kept.is_file():
-        before = json.loads(kept.read_text())
-        if before["of"] == key:
-            print(f"{name} is kept: its edits were tried before", file=sys.stderr, flush=True)
-            return [Tried(*it) for it in before["tried"]]
-    _, text = ran_in(room, "rt", "must-fail", name)
-    every = [told(said[1], said[2], said[3]) for said in map(SAID.match, text.splitlines()) if said]
-    if not every:
-        last = text.rstrip().rpartition("\n")[2]
-        raise Refused(f"rt must-fail {name} tried no edit: {last or 'rt said nothing'}")
-    kept.write_text(json.dumps({"of": key, "tried": every}))
-    print(f"{name}: {len(every)} edits tried", file=sys.stderr, flush=True)
-    return every
+    files = (it for crate in with_those_below([name]) for it in sorted((room / "crates" / crate).rglob("*")) if it.is_file())
+    parts = ((file, file.relative_to(room / "crates").parts) for file in files)
+    return sum_of(
+        ran_in(room, "rt", "version")[1], room,
+        (file for file, (crate, part, *_) in parts if part != "out" and (crate == name or part != "must-fail")),
+    )
 
 
 def tried_in_rounds(room: Path, name: str, jobs: int) -> list[Tried]:
     """Tries the edits of one crate, many in one check of so many jobs, and gives what came of each: from a run before, where nothing has changed since."""
     folder = room / "crates" / name
-    kept, key = room / f"{name}.rounds", sum_of(room, name)
+    kept, key = room / f"{name}.rounds", state_of(room, name)
     bodies = [rounds.body_of(folder, it.stem, it) for it in sorted((folder / "must-fail").glob("*.edit"))]
     shutil.rmtree(folder / "must-fail")
     before = json.loads(kept.read_text()) if kept.is_file() else {}
@@ -360,7 +305,7 @@ def tried_in_rounds(room: Path, name: str, jobs: int) -> list[Tried]:
         crate = rounds.Crate(folder, ["rt", "check", "--jobs", str(jobs)])
         why = crate.prove()
         if why:
-            raise Refused(f"{name} is not proved: {why}")
+            raise Broken(f"{name} is not proved: {why}")
         for edit, come in rounds.tried_together(crate, left):
             found[edit] = Tried(name, edit, come.kind, come.why)
             kept.write_text(json.dumps({"of": key, "tried": list(found.values())}))
@@ -375,15 +320,8 @@ def prove_below(room: Path, names: list[str], jobs: int) -> None:
         if any(name in crates()[it] for it in with_those_below(names)):
             status, text = ran_in(room / "crates" / name, "rt", "lib", "--jobs", str(jobs))
             if status:
-                raise Refused(f"{name} is not proved: {text.rstrip().rpartition(chr(10))[2]}")
+                raise Broken(f"{name} is not proved: {text.rstrip().rpartition(chr(10))[2]}")
             print(f"{name} proved", file=sys.stderr, flush=True)
-
-
-def tried_in_turn(room: Path, names: list[str], jobs: int) -> Found:
-    """Tries the edits of the crates one by one, so many crates at a time, once what they stand on is proved, and gives what came of each."""
-    prove_below(room, names, jobs)
-    with ThreadPoolExecutor(jobs) as lanes:
-        return {(it.crate, it.edit): it for every in lanes.map(lambda name: tried_alone(room, name), names) for it in every}
 
 
 def tried_together(room: Path, names: list[str], jobs: int) -> Found:
@@ -395,42 +333,21 @@ def tried_together(room: Path, names: list[str], jobs: int) -> Found:
 def tried(room: Path, edits: dict[str, list[str]], jobs: int, together: bool) -> list[Tried]:
     """Tries the edits of the crates, so many at a time, and gives what came of each, in their order."""
     names = list(edits)
-    takes_names = re.search(r"\brt ci \[?NAME", ran_in(room, "rt", "help")[1])
-    found = (tried_together if together else tried_by_gate if takes_names else tried_in_turn)(room, names, jobs)
+    found = (tried_together if together else tried_by_gate)(room, names, jobs)
     return [found.get((name, edit)) or Tried(name, edit, "not tried", ": rt said nothing of it") for name in names for edit in edits[name]]
 
 
 def fault(crate: str, edit: Path) -> str:
-    """Why an edit can't be applied, by the rules of rt: its lines `file:`, `old:` and `new:`, and each old text once in its file."""
-    path: Path | None = None
-    old: str | None = None
-    texts: dict[Path, str] = {}
-    for line in edit.read_text().splitlines():
-        word, _, rest = line.partition(":")
-        rest = rest.removeprefix(" ")
-        if word == "file":
-            path = TOP / "crates" / crate / rest.strip()
-        elif word == "old":
-            old = rest
-        elif word == "new":
-            if not path or not path.is_file():
-                return f"there is no file {path or edit}"
-            text = texts.get(path) or path.read_text()
-            if not old or text.count(old) != 1:
-                return f"this text stands in {path.name} {text.count(old) if old else 0} times: {old}"
-            texts[path], old = text.replace(old, rest), None
-    return "" if texts else "it changes nothing"
+    """Why an edit can't be applied, or nothing."""
+    try:
+        return "" if changed(TOP / "crates" / crate, edit) else "it changes nothing"
+    except Broken as why:
+        return str(why)
 
 
 def look(edits: Edits) -> bool:
     """Says which edits can't be applied, and whether there are none."""
-    faults = [(name, edit, fault(name, path)) for name, files in edits.items() for edit, path in files.items()]
-    for name, edit, why in faults:
-        if why:
-            print(f"{name}/{edit}: {why}")
-    bad = sum(bool(why) for _, _, why in faults)
-    print(f"{len(faults)} edits, {bad} of them can't be applied")
-    return not bad
+    return tell_faults([(f"{name}/{edit}", fault(name, path)) for name, files in edits.items() for edit, path in files.items()], "edits")
 
 
 def sums(crate: str, every: list[Tried]) -> list[int]:
@@ -439,16 +356,11 @@ def sums(crate: str, every: list[Tried]) -> list[int]:
     return [counts[kind] for kind in KINDS]
 
 
-def tell_sums(names: list[str], every: list[Tried], as_table: bool) -> None:
+def tell_sums(names: list[str], every: list[Tried]) -> None:
     """Prints the sums by crate, and of all."""
-    if as_table:
-        print(f"| crate | edits | {' | '.join(KINDS)} |\n|---|{'---|' * (len(KINDS) + 1)}")
     for name in [*names, "all"]:
         of = sums(name, every) if name != "all" else [sum(it) for it in zip(*(sums(name, every) for name in names))]
-        if as_table:
-            print(f"| {name if name == 'all' else f'`{name}`'} | {sum(of)} | {' | '.join(map(str, of))} |")
-        else:
-            print(f"{name}: {sum(of)} edits, " + ", ".join(f"{number} {kind}" for number, kind in zip(of, KINDS) if number or kind == "refused"))
+        print(f"{name}: {sum(of)} edits, " + ", ".join(f"{number} {kind}" for number, kind in zip(of, KINDS) if number or kind == "refused"))
 
 
 def try_consistent(given: argparse.Namespace) -> int:
@@ -456,12 +368,12 @@ def try_consistent(given: argparse.Namespace) -> int:
     every = consistent.changes()
     for name in given.names:
         if name not in every:
-            raise Refused(f"{name} is no change of dev/consistent")
+            raise Broken(f"{name} is no change of dev/consistent")
     names = list(dict.fromkeys(given.names)) or list(every)
     if given.look:
         return 0 if consistent.look(names) else 1
     if shutil.which("rt") is None:
-        raise Refused("there is no rt on the path: changes are tried with the Rattle toolchain")
+        raise Broken("there is no rt on the path: changes are tried with the Rattle toolchain")
     return 0 if consistent.try_all(room_of(given.room, "consistent"), names, max(1, given.jobs)) else 1
 
 
@@ -471,7 +383,6 @@ def parser() -> argparse.ArgumentParser:
     words.add_argument("names", nargs="*", metavar="NAME", help="a crate; none: all that have edits; with --consistent a change")
     words.add_argument("--room", metavar="FOLDER", help="where the copy of the crates stands")
     words.add_argument("--jobs", metavar="N", type=int, default=len(os.sched_getaffinity(0)), help="how many are tried at a time")
-    words.add_argument("--table", action="store_true", help="the sums as rows of a table")
     words.add_argument("--together", action="store_true", help="many in one check, each in another function")
     words.add_argument("--look", action="store_true", help="only say which edits can't be applied")
     words.add_argument("--starved", action="store_true", help="bodies that answer want of memory in place of a refusal")
@@ -486,9 +397,9 @@ def try_edits(given: argparse.Namespace) -> bool:
     starved = refusals_of(given.names) if given.starved else {}
     edits = {} if given.starved else chosen(given.names, given.silent)
     if not edits and not starved:
-        raise Refused("there is nothing to try")
+        raise Broken("there is nothing to try")
     if shutil.which("rt") is None:
-        raise Refused("there is no rt on the path: edits are tried with the Rattle toolchain")
+        raise Broken("there is no rt on the path: edits are tried with the Rattle toolchain")
     room = room_of(given.room)
     rows = [tried_file.row_of(TOP / "crates" / name) for name in edits if not given.silent]
     copy(room, edits or dict.fromkeys(starved, {}))
@@ -497,7 +408,7 @@ def try_edits(given: argparse.Namespace) -> bool:
     names = {name: list(files) for name, files in edits.items()} or {name: [it.name for it in bodies] for name, bodies in starved.items()}
     every = tried(room, names, max(1, given.jobs), given.together)
     print("\n".join(it.line() for it in every), flush=True)
-    tell_sums(list(names), every, given.table)
+    tell_sums(list(names), every)
     tried_file.put([row for row in rows if all(it.kind in KINDS[:2] for it in every if it.crate == row.crate)])
     return all(it.kind in KINDS[:2] for it in every)
 
@@ -507,14 +418,14 @@ def main() -> int:
     given = parser().parse_args()
     try:
         if given.silent + given.starved + given.consistent > 1:
-            raise Refused("--silent, --starved and --consistent are three ways: name one")
+            raise Broken("--silent, --starved and --consistent are three ways: name one")
         if given.consistent:
             return try_consistent(given)
         if given.look and given.starved:
             list_starved(refusals_of(given.names))
             return 0
         return 0 if (look(chosen(given.names, given.silent)) if given.look else try_edits(given)) else 1
-    except (Refused, OSError) as why:
+    except (Broken, OSError) as why:
         print(f"edits.py: {why}", file=sys.stderr)
         return 2
 

@@ -14,6 +14,8 @@ import subprocess
 from pathlib import Path
 from typing import Iterator, NamedTuple
 
+from checkout import changes_in
+
 FUNCTION = re.compile(r"^( *)(?:pub(?:\([a-z]+\))? )?(?:const )?fn (\w+)")
 VERDICT = re.compile(r"fn (\S+): (.*)")
 NOTE = re.compile(r"(?:note: )?(?:\./)?(src/\S+?):(\d+):\d+: (.*)")
@@ -67,20 +69,7 @@ def function_at(text: str, at: int) -> tuple[str, range]:
 
 def body_of(folder: Path, name: str, edit: Path) -> Body:
     """Reads an edit, whose old texts stand once in their files, as `edits.py --look` says."""
-    file, old = "", ""
-    changes: list[Change] = []
-    texts: dict[str, str] = {}
-    for line in edit.read_text().splitlines():
-        word, _, rest = line.partition(":")
-        rest = rest.removeprefix(" ")
-        if word == "file":
-            file = rest.strip()
-        elif word == "old":
-            old = rest
-        elif word == "new":
-            text = texts.get(file) or (folder / file).read_text()
-            changes.append(Change(file, old, rest, *function_at(text, text.index(old))))
-            texts[file] = text.replace(old, rest)
+    changes = [Change(it.file, it.old, it.new, *function_at(it.before, it.before.index(it.old))) for it in changes_in(folder, edit)]
     return Body(name, changes)
 
 

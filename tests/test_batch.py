@@ -2,6 +2,7 @@
 
 import contextlib
 import importlib.util
+import io
 import json
 import os
 import signal
@@ -215,7 +216,9 @@ class Changes(Case):
     def test_a_table_is_read_as_it_was_printed(self):
         rows = [batch.Row("verified", "closed", "guarded", "1200/1200", "12345678", "1234567.5", "a folder/with a blank"),
                 batch.Row("not-verified", "refused", "-", "-", "-", "0.1", "b", "strategy:1:1: NoMatch")]
-        text = "\n".join([batch.line_of(batch.HEAD), *(line for row in rows for line in batch.lines_of(row)), batch.last_line(rows), ""])
+        with contextlib.redirect_stdout(io.StringIO()) as said:
+            batch.print_table(rows)
+        text = said.getvalue()
         self.assertEqual(batch.rows_in(self.file("table", text)), [row._replace(why="") for row in rows])
         self.assertEqual(batch.rows_in(self.file("joined", text + text.replace("a folder", "other"))), [
             row._replace(why="", folder=folder) for folder, row in zip(("a folder/with a blank", "b", "other/with a blank", "b"), rows * 2)])

@@ -79,7 +79,8 @@ class Models(Case):
     def test_invariants_of_a_term(self):
         model, strategy = self.file("model", BRAKE.replace("M()", "M")), self.file("strategy", CLOSES_BRAKE)
         text, _ = words.made_by(PROGRAM, model, CLOSES_BRAKE)
-        found = said(hints.of_invariants(words.lines_of(text), words.line_words(model, strategy, PROGRAM)))
+        lines = words.lines_of(text)
+        found = said(hints.of_invariants(lines, words.words_of_lines(words.word_runs(model, strategy, PROGRAM), len(lines))))
         self.assertEqual([byte for byte, _ in found], [CLOSES_BRAKE.index("dI")])
 
     def test_nothing_is_hinted_at_in_the_repository(self):

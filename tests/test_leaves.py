@@ -1,7 +1,9 @@
 """Tests of dlkt leaves with solvers that say what the test wants."""
 
 import json
+import random
 import unittest
+from fractions import Fraction
 
 from helping import CLOSES_INCREMENT, Case, INCREMENT, PROGRAM, needs_program
 from dlkt import leaves, program
@@ -13,6 +15,26 @@ class Computing(unittest.TestCase):
     def test_exponents(self):
         self.assertEqual(leaves.folded("x^(2-1)*y^(3-1)>=z^(1-1)"), ("x^1*y^2>=z^(1-1)", [("^(2-1)", "^1"), ("^(3-1)", "^2")]))
         self.assertIsNone(leaves.computed("1/0"))
+
+    def test_random_exponents(self):
+        choose = random.Random(7)
+
+        def drawn(levels):
+            """A text of numbers, and its value as Python has it, or none where something is divided by 0."""
+            if not levels or choose.random() < 0.2:
+                number = choose.choice(("0", "1", "2", "3", "0.5", "2.25", "10"))
+                return number, f"Fraction('{number}')"
+            left, right = drawn(levels - 1), drawn(levels - 1)
+            shape = choose.choice(("-{}", "({})", "{}+{}", "{}-{}", "{}*{}", "{}/{}"))
+            return shape.format(left[0], right[0]), shape.format(left[1], right[1])
+
+        for _ in range(500):
+            text, python = drawn(4)
+            try:
+                value = eval(python, {"Fraction": Fraction})
+            except ZeroDivisionError:
+                value = None
+            self.assertEqual(leaves.computed(text), value, text)
 
     def test_one_formula(self):
         self.assertEqual(leaves.implication("x>0, y>0 ==> z>0"), "((x>0)&(y>0)) -> ((z>0))".replace("((z>0))", "((z>0))"))

@@ -14,7 +14,6 @@ from helping import BRAKE, CHOICE, CLOSES_BRAKE, CLOSES_CHOICE, CLOSES_INCREMENT
 
 from dlkt.commands import page
 from dlkt.commands import tree as prooftree
-from dlkt import typeset
 from dlkt.program import answer
 from dlkt.terms import Nodes, readable
 from dlkt.trees import sequent_text
@@ -191,12 +190,12 @@ class Pages(Page):
             self.assertIn(text, said)
         data = data_of(run.stdout)
         self.assertEqual([[word, *place] for word, *place, _, _ in data["visits"]], [["implyR(1)", 1, 1], ["step(1)", 2, 3]])
-        self.assertIn('<mark id="fails" title="it fails here">andR</mark>', run.stdout)
+        self.assertIn('<mark id="fails" title="it fails here"><span class="text">andR</span></mark>', run.stdout)
         self.assertIn("x>=0 ==> x+1>=1", sequents_of(data))
 
     def test_a_branch_of_the_wrong_length(self):
         said = "".join(self.well_made(self.made(INCREMENT, "implyR(1); step(1); <(leaf, leaf)\n").stdout).said)
-        for text in ("the strategy fails", "WrongCount: the branch has 2 parts, and there are 1 goal", "it meets goal 1"):
+        for text in ("the strategy fails", "WrongCount: the branch has 2 parts, and there is 1 goal", "it meets goal 1"):
             self.assertIn(text, said)
 
     def test_a_term(self):
@@ -282,19 +281,32 @@ class Titles(unittest.TestCase):
         self.assertEqual(page.title_of("/proofs/car.dlkmodel"), "car")
 
 
+@unittest.skipUnless(shutil.which("node"), "node isn't installed")
 class Typesetting(unittest.TestCase):
+    """What the script of a page makes of texts."""
+
+    def set(self, texts):
+        """The texts as they are set."""
+        formulas, typeset = ((ROOT / "src" / "dlkt" / "pages" / name).read_text() for name in ("formulas.js", "typeset.js"))
+        escaped = formulas[formulas.index("const escaped ="):]
+        asked = f"{escaped}\n{typeset}\nconsole.log(JSON.stringify(JSON.parse(require('fs').readFileSync(0)).map(setFormula)));"
+        run = subprocess.run([shutil.which("node"), "-e", asked], input=json.dumps(texts), capture_output=True, text=True, check=True)
+        return json.loads(run.stdout)
+
     def test_what_is_copied_is_what_was_written(self):
-        files = [path for name in ("model", "strategy") for path in sorted(ROOT.glob(f"examples/**/{name}"))]
-        for path in files:
-            text = path.read_text()
-            marked = typeset.formula(text)
-            self.assertEqual(plain(marked), text, path)
-            self.assertEqual(looked_at(marked).open, [], path)
+        texts = [path.read_text() for name in ("model", "strategy") for path in sorted(ROOT.glob(f"examples/**/{name}"))]
+        for text, marked in zip(texts, self.set(texts), strict=True):
+            self.assertEqual(plain(marked), text)
+            self.assertEqual(looked_at(marked).open, [], text)
 
     def test_signs(self):
-        self.assertIn('data-s="\u2264"', typeset.formula("x<=1"))
-        self.assertNotIn('data-s="\u00b7"', typeset.formula("[{x:=*;}*]true"))
-        self.assertIn('data-s="\u00b7"', typeset.formula("x*y"))
+        compared, star, product, note = self.set(["x<=1", "[{x:=*;}*]true", "x*y", "[{x:=1;}*@invariant(x>=0)]x>=0 /* x*y */"])
+        self.assertIn('data-s="\u2264"', compared)
+        self.assertNotIn('data-s="\u00b7"', star)
+        self.assertIn('data-s="\u00b7"', product)
+        self.assertNotIn('data-s="\u00b7"', note)
+        self.assertIn('<span class="note">@invariant</span>', note)
+        self.assertIn('<span class="comment">/* x*y */</span>', note)
 
 
 def units(data):

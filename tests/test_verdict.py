@@ -329,6 +329,13 @@ class Terms(Verdict):
 
 @needs_program
 class Errors(Verdict):
+    def test_the_term_is_put_where_nobody_reads(self):
+        model, strategy = self.file("model", "x>=0 -> x>=0\n"), self.file("strategy", "implyR(1); close")
+        with self.started("verify", model, strategy, "-o", "term") as process:
+            process.stdout.close()
+            self.assertEqual(process.wait(), 141)
+        self.assertTrue((self.folder / "term").read_bytes().startswith(b"dlk 2\n"))
+
     def test_one_line_each(self):
         model, strategy = self.file("model", INCREMENT), self.file("strategy", CLOSES_INCREMENT)
         (self.folder / "folder").mkdir()

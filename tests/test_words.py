@@ -54,8 +54,7 @@ class Words(Case):
         return [(run.first, run.last, run.word) for run in self.runs(model, text)]
 
     def test_each_line_has_its_word(self):
-        found = words.line_words(self.file("model", CHOICE), self.file("strategy", CLOSES_CHOICE), PROGRAM)
-        self.assertEqual(len(found), 59)
+        found = words.words_of_lines(self.runs(CHOICE, CLOSES_CHOICE), 59)
         self.assertEqual(found[:3], [None, (0, "implyR(1)"), (11, "step(1)")])
         self.assertEqual(found[-1], (CLOSES_CHOICE.index("leaf"), "leaf"))
         self.assertNotIn(None, found[1:])
@@ -108,7 +107,7 @@ class Words(Case):
     def test_another_term(self):
         model, strategy = self.file("model", CHOICE), self.file("strategy", CLOSES_CHOICE)
         term = self.file("term", "1 start ==> x>=0\ndone\n")
-        self.assertEqual(words.line_words(model, strategy, PROGRAM, term), [None])
+        self.assertIsNone(words.word_runs(model, strategy, PROGRAM, term))
 
     def test_a_strategy_that_fails(self):
         with self.assertRaises(program.Refused):

@@ -1,12 +1,12 @@
 """The one place where the words of `dlkt`'s command line are read: a sub-command each for the files of `commands`.
 
 A command's file has `HELP` (one line), `EXAMPLE` (a command line that works in a checkout), `add_words(parser)`, and `run(options)`, which
-gives the exit status. The table below has each command's name, its module, and the status by which it says that nothing is known.
+gives the exit status. The table below has each command's name and its module.
 """
 
 import argparse
 import sys
-from typing import Iterable, NamedTuple, NoReturn, Sequence
+from typing import Iterable, NoReturn, Sequence
 
 from dlkt import __version__
 from dlkt.packages import imported, wanting
@@ -15,28 +15,15 @@ from dlkt.program import INPUT_REFUSED, ended
 MOST_LEVELS = 60_000
 
 
-class Command(NamedTuple):
-    """A sub-command: its module, and its status where its words or its inputs are refused."""
-
-    module: str
-    refused: int = INPUT_REFUSED
-
-
 COMMANDS = {
-    "verify": Command("dlkt.commands.verify", 4),
-    "auto": Command("dlkt.commands.auto"),
-    "refute": Command("dlkt.commands.refute"),
-    "import": Command("dlkt.commands.import_"),
-    "batch": Command("dlkt.commands.batch"),
-    "leaves": Command("dlkt.commands.leaves"),
-    "page": Command("dlkt.commands.page"),
-    "tree": Command("dlkt.commands.tree"),
-    "prompt": Command("dlkt.commands.prompt"),
-    "print": Command("dlkt.commands.print"),
-    "readable": Command("dlkt.commands.readable"),
-    "words": Command("dlkt.words"),
-    "lsp": Command("dlkt.commands.lsp"),
+    **{name: f"dlkt.commands.{name}" for name in ("verify", "auto", "refute")},
+    "import": "dlkt.commands.import_",
+    **{name: f"dlkt.commands.{name}" for name in ("batch", "leaves", "page", "tree", "prompt", "print", "readable")},
+    "words": "dlkt.words",
+    "lsp": "dlkt.commands.lsp",
 }
+# The status by which a command says that its words or its inputs are refused, where it isn't the usual one.
+REFUSED = {"verify": 4}
 
 
 class Words(argparse.ArgumentParser):
@@ -56,15 +43,14 @@ def parser_with(names: Iterable[str]) -> Words:
     parser.add_argument("--version", action="version", version=f"dlkt {__version__}")
     commands = parser.add_subparsers(dest="command", metavar="COMMAND", required=True, parser_class=Words)
     for name in names:
-        command = COMMANDS[name]
-        module = imported(command.module)
+        module = imported(COMMANDS[name])
         one = commands.add_parser(
             name, help=module.HELP, description=module.HELP, epilog=f"Example: {module.EXAMPLE}",
             formatter_class=argparse.RawDescriptionHelpFormatter,
         )
-        one.refused = command.refused
+        one.refused = REFUSED.get(name, INPUT_REFUSED)
         module.add_words(one)
-        one.set_defaults(run=module.run, refused=command.refused)
+        one.set_defaults(run=module.run, refused=one.refused)
     return parser
 
 
@@ -73,6 +59,6 @@ def main(words: Sequence[str]) -> int:
     sys.setrecursionlimit(MOST_LEVELS)
     named = words[:1] if words and words[0] in COMMANDS else []
     parser = parser_with(named or COMMANDS)
-    parser.refused = COMMANDS[named[0]].refused if named else INPUT_REFUSED
+    parser.refused = REFUSED.get(named[0], INPUT_REFUSED) if named else INPUT_REFUSED
     options = parser.parse_args(words)
     return ended(f"dlkt {options.command}", wanting(options.run), options, options.refused)

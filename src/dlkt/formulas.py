@@ -11,7 +11,7 @@ from fractions import Fraction
 from math import gcd
 
 from dlkt import reader
-from dlkt.trees import Tree, Trees, text
+from dlkt.trees import Tree, Trees, parts, text
 
 __all__ = [
     "COMPARISONS", "FALSE", "FLIPPED", "Field", "Monomial", "NEGATED", "NoSmt", "NotPolynomial", "ONE", "Polynomial", "TREES", "TRUE", "Values", "ZERO",
@@ -110,14 +110,11 @@ def bound(program: Tree) -> frozenset[str]:
 def bound_anywhere(tree: Tree) -> frozenset[str]:
     """All names that are bound anywhere in a tree."""
     found: set[str] = set()
-    waiting = [tree]
-    while waiting:
-        here = waiting.pop()
+    for here in parts(tree):
         if here.word in ("assign", "any", "forall", "exists"):
             found.add(here.detail)
         if here.word == "system":
             found |= bound(here)
-        waiting += here.kids
     return frozenset(found)
 
 

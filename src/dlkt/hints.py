@@ -8,11 +8,12 @@ from typing import Iterable, Iterator, NamedTuple, Sequence
 
 from dlkt import reader, strategies
 from dlkt.calculus import AXIOMS, LIBRARY, OTHER_WORDS, PREMISES, is_word
+from dlkt.formulas import bound_anywhere, conjuncts, formula, free, is_arithmetic
 from dlkt.leaves import exported_alone
 from dlkt.program import Name, Refused, answer, at_top, position, refusal_in, split_list
 from dlkt.solvers import Solvers, Word
 from dlkt.strategies import Atom, Part
-from dlkt.trees import Tree, Trees, text as text_of
+from dlkt.trees import Tree, text as text_of
 
 MOST_SECONDS = 2.0  # for the question whether assumptions contradict each other
 LONGEST_LOOK = 1 << 18  # bytes of a model that is read for hints
@@ -182,14 +183,11 @@ def instead(name: str, is_symbol: bool, known: Names) -> str:
 
 def of_functions(model: bytes, tree: Part | None) -> Iterator[Hint]:
     """Hints at functions of other provers."""
-    for name, byte in names_of(blanked(model)).symbols.items():
-        if name in UNKNOWN_FUNCTIONS:
-            yield Hint("model", byte, said_of_function(name))
-    for atom in strategies.atoms(tree) if tree else ():
-        for text, begin in texts_of(atom):
-            for name, byte in names_of(text, begin).symbols.items():
-                if name in UNKNOWN_FUNCTIONS:
-                    yield Hint("strategy", byte, said_of_function(name))
+    texts = [("model", blanked(model), 0), *(("strategy", *found) for atom in (strategies.atoms(tree) if tree else ()) for found in texts_of(atom))]
+    for file, text, begin in texts:
+        for name, byte in names_of(text, begin).symbols.items():
+            if name in UNKNOWN_FUNCTIONS:
+                yield Hint(file, byte, said_of_function(name))
 
 
 def said_of_function(name: str) -> str:
@@ -294,24 +292,9 @@ def tree_of(model: bytes) -> Tree | None:
     if len(model) > LONGEST_LOOK:
         return None
     try:
-        return reader.model(model.decode("latin-1"), Trees())[0]
+        return formula(model.decode("latin-1"))
     except (reader.Wrong, RecursionError):
         return None
-
-
-def names_bound(tree: Tree) -> set[str]:
-    """The names that quantifiers and programs of a tree bind."""
-    found, waiting, seen = set[str](), [tree], {id(tree)}
-    while waiting:
-        here = waiting.pop()
-        if here.word in ("forall", "exists", "assign", "any"):
-            found.add(here.detail.rstrip("'"))
-        elif here.word == "system":
-            found |= {item.rstrip("'") for item in here.detail.split(",")}
-        new = [kid for kid in here.kids if id(kid) not in seen]
-        seen |= set(map(id, new))
-        waiting += new
-    return found
 
 
 def letters_of(name: str) -> str:
@@ -322,7 +305,7 @@ def letters_of(name: str) -> str:
 def of_twins(model: bytes, tree: Tree) -> Iterator[Hint]:
     """Hints at a variable beside a constant of the same name, and at one that is used once beside a constant of the same letters."""
     text = blanked(model)
-    known, bound = names_of(text), names_bound(tree)
+    known, bound = names_of(text), bound_anywhere(tree)
     constants = [name for name in known.symbols if re.search(rf"\b{name}\s*\(\s*\)", text)]
     for name, byte in known.variables.items():
         if name in constants:
@@ -339,28 +322,15 @@ def assumptions(tree: Tree) -> list[Tree]:
     """What stands before the arrows of a model, part by part."""
     found: list[Tree] = []
     while tree.word == "imply" or tree.word == "forall" and not found:
-        waiting = [tree.kids[0]] if tree.word == "imply" else []
-        while waiting:
-            here = waiting.pop()
-            if here.word == "and":
-                waiting += reversed(here.kids)
-            else:
-                found.append(here)
+        found += conjuncts(tree.kids[0]) if tree.word == "imply" else []
         tree = tree.kids[-1]
     return found
-
-
-def is_arithmetic(tree: Tree) -> bool:
-    """Whether nothing but arithmetic stands in a formula."""
-    if tree.word in ("app", "holds", "ufun", "upred", "quant", "dot", "hole", "diff", "difff", "box", "dia"):
-        return tree.word == "app" and not tree.kids
-    return not (tree.word == "var" and tree.detail.endswith("'")) and all(map(is_arithmetic, tree.kids))
 
 
 def of_assumptions(program: str, model: bytes, solvers: Solvers) -> Iterator[Hint]:
     """A hint where what a model assumes contradicts itself, as a solver says."""
     tree = tree_of(model)
-    parts = [part for part in assumptions(tree) if is_arithmetic(part)] if tree else []
+    parts = [part for part in assumptions(tree) if is_arithmetic(part) and not any(name.endswith("'") for name in free(part))] if tree else []
     if not parts or not solvers.names:
         return
     try:

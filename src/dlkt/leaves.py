@@ -15,8 +15,11 @@ from fractions import Fraction
 from pathlib import Path
 from typing import Iterator, Mapping, NamedTuple, Sequence
 
+from dlkt.formulas import NotPolynomial, polynomial
 from dlkt.program import Name, Refused, answer, complaint_of, has_report, printed_report, split_sequent
+from dlkt.reader import Wrong, expression
 from dlkt.solvers import Answer, Solvers, Word, questions
+from dlkt.trees import Trees
 
 POWER, NOT_ASKED = "power", "not asked"
 WAY_OUT = "a power has another exponent than a whole number from 1 to 16: multiply it out, as x*x*x"
@@ -41,58 +44,20 @@ class LeafAnswer(NamedTuple):
     by: Mapping[str, str] = {}
     values_by: Mapping[str, Mapping[str, str]] = {}
 
+    def as_object(self) -> dict[str, object]:
+        """What --json prints of it."""
+        known = self._asdict()
+        return {"answer": known.pop("word"), **known}
+
 
 # Exponents
 
-class Sum:
-    """Computes a text of numbers, `+`, `-`, `*`, `/` and brackets."""
-
-    def __init__(self, text: str) -> None:
-        self.tokens: list[str] = re.findall(r"\d+(?:\.\d+)?|[-+*/()]", text)
-        self.at = 0
-
-    def take(self, *words: str) -> str:
-        """One of these words, where it stands here; it is gone over."""
-        if self.at < len(self.tokens) and self.tokens[self.at] in words:
-            self.at += 1
-            return self.tokens[self.at - 1]
-        return ""
-
-    def factor(self) -> Fraction:
-        """A number, a sum in brackets, or one of these behind a sign."""
-        if self.take("-"):
-            return -self.factor()
-        if self.take("("):
-            inner = self.total()
-            if not self.take(")"):
-                raise ValueError
-            return inner
-        self.at += 1
-        return Fraction(self.tokens[self.at - 1])
-
-    def product(self) -> Fraction:
-        """Factors with `*` and `/` between."""
-        value = self.factor()
-        while word := self.take("*", "/"):
-            value = value * self.factor() if word == "*" else value / self.factor()
-        return value
-
-    def total(self) -> Fraction:
-        """Products with `+` and `-` between."""
-        value = self.product()
-        while word := self.take("+", "-"):
-            value = value + self.product() if word == "+" else value - self.product()
-        return value
-
-
 def computed(text: str) -> Fraction | None:
     """The value of a text of numbers, or none where it has none."""
-    found = Sum(text)
     try:
-        value = found.total()
-    except (ValueError, IndexError, ZeroDivisionError):
+        return polynomial(expression(text, Trees())).get((), Fraction(0))
+    except (Wrong, NotPolynomial):
         return None
-    return value if found.at == len(found.tokens) else None
 
 
 def end_of_brackets(text: str, at: int) -> int:
@@ -154,18 +119,14 @@ def exported_alone(program: str, sequent: str) -> Script:
     return Script(None if scripts is None else scripts[0], pairs)
 
 
-def texts_of_leaves(program: str, model: Name, term: Name) -> list[str]:
-    """The leaves of a term as texts."""
-    return printed_report(answer(program, "check", model, term)).leaves
-
-
 def scripts_of(program: str, model: Name, term: Name, texts: Sequence[str] | None = None) -> list[Script]:
     """The question of each leaf of a term, whose texts may be known."""
     scripts = exported(program, model, term)
+    if not texts and not scripts:  # a script without a leaf may also be that of a program that isn't dlk
+        texts = printed_report(answer(program, "check", model, term)).leaves
     if scripts is None:
-        return [exported_alone(program, text) for text in texts or texts_of_leaves(program, model, term)]
-    # A script without a leaf may also be that of a program that isn't dlk: then the report is asked, too.
-    wanted = len(texts if texts is not None else scripts or texts_of_leaves(program, model, term))
+        return [exported_alone(program, text) for text in texts or ()]
+    wanted = len(scripts if texts is None else texts)
     if len(scripts) != wanted:
         raise Refused(f"the program lists {wanted} leaves, and writes {len(scripts)} for a solver")
     return [Script(script) for script in scripts]

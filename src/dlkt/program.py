@@ -151,18 +151,26 @@ def one_line(text: str) -> str:
     return "".join(letter if letter.isprintable() else letter.encode("unicode_escape").decode() for letter in text)
 
 
-def seconds(text: str) -> int:
-    """A number of seconds from 1 on, of a command line."""
+def whole(text: str) -> int:
+    """A whole number from 1 on, of a command line."""
     if not re.fullmatch(r"[1-9]\d{0,5}", text):
-        raise argparse.ArgumentTypeError(f"{text} is no number of seconds from 1 on")
-    return int(text)
-
-
-def count(text: str) -> int:
-    """How many at a time, of a command line."""
-    if not re.fullmatch(r"[1-9]\d{0,3}", text):
         raise argparse.ArgumentTypeError(f"{text} is no number from 1 on")
     return int(text)
+
+
+# Options that several commands have.
+OPTIONS: dict[str, dict[str, Any]] = {
+    "--dlk": {"metavar": "PROGRAM", "help": "the program (that of this checkout)"},
+    "--seconds": {"type": whole, "default": 20, "metavar": "N", "help": "for each leaf and solver (20)"},
+    "-j": {"dest": "jobs", "type": whole, "default": os.cpu_count() or 1, "metavar": "N", "help": "so many leaves at a time"},
+    "--json": {"action": "store_true", "help": "print one object"},
+}
+
+
+def add_options(parser: argparse.ArgumentParser, *names: str, **other: Any) -> None:
+    """Adds options that several commands have, otherwise in these points."""
+    for name in names:
+        parser.add_argument(name, **{**OPTIONS[name], **other})
 
 
 def position(text: str | bytes, byte: int) -> Position:

@@ -30,6 +30,8 @@ import time
 from enum import StrEnum
 from typing import Iterable, Mapping, NamedTuple, Self, Sequence
 
+from dlkt.program import one_line
+
 Expression = str | list["Expression"]
 
 SECONDS = 20.0  # for a question
@@ -138,13 +140,8 @@ def values_in(said: str) -> dict[str, str]:
     for part in expressions(said):
         for entry in part if isinstance(part, list) else []:
             if isinstance(entry, list) and len(entry) == 5 and entry[0] == "define-fun" and entry[2] == [] and isinstance(entry[1], str):
-                values[printable(name_of(entry[1]))] = printable(shown(entry[4]))
+                values[one_line(name_of(entry[1]))] = one_line(shown(entry[4]))
     return values
-
-
-def printable(text: str) -> str:
-    """A text with escapes for what would end a line or change how it is shown."""
-    return "".join(letter if letter.isprintable() else letter.encode("unicode_escape").decode() for letter in text)
 
 
 # Processes
@@ -277,7 +274,7 @@ class Talk:
         elif first == "sat":
             self.send("(get-model)\n", "values", PATIENCE)
         else:
-            self.reply = Reply(Word.UNKNOWN, why="" if first == "unknown" else printable(first), steps=self.steps)
+            self.reply = Reply(Word.UNKNOWN, why="" if first == "unknown" else one_line(first), steps=self.steps)
 
     def died(self) -> None:
         """The process ended, or doesn't take the question: it is asked once more."""

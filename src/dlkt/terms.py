@@ -110,7 +110,7 @@ def version_of(data: str | bytes) -> int:
     return 2 if decoded(data).split("\n", 1)[0] == HEAD else 1
 
 
-# Reading version 2
+# Reading
 
 class Nodes:
     """The nodes of a file of version 2 so far: trees, numbered from 1."""
@@ -191,8 +191,12 @@ def node_of_cut(nodes: Nodes, rest: str) -> Tree:
     return nodes.formula(rest[1:])
 
 
-def step_of(number: int, place: int, word: str, rest: str, readers: Readers) -> Step:
+def step_of(place: int, line: str, readers: Readers) -> Step:
     """The step of a line."""
+    parts = STEP_LINE.fullmatch(line)
+    if parts is None:
+        raise Malformed
+    number, word, rest = int(parts[1]), parts[2], parts[3]
     if word in ("start", "leaf"):
         return Step(number, place, word, "", sides=readers.sides(rest))
     if word == "subst":
@@ -210,73 +214,39 @@ def step_of(number: int, place: int, word: str, rest: str, readers: Readers) -> 
     return Step(number, place, word, rest)
 
 
-def read_version_2(lines: Sequence[str]) -> Term:
-    """The term of these lines, of which the first is the head."""
-    nodes, steps = Nodes(), list[Step]()
-
-    def take(place: int, line: str) -> bool:
-        """Takes a line; whether it ends the term."""
-        if line == END:
-            if not steps:
-                raise Malformed
-            return True
-        found = NODE_LINE.fullmatch(line)
-        if found:
-            tree = nodes.read(found[2], found[3])
-            if int(found[1]) != len(nodes.by_number) + 1:
-                raise Wrong(place, "WrongNumber")
-            nodes.add(tree)
-            return False
-        found = STEP_LINE.fullmatch(line)
-        if found is None:
-            raise Malformed
-        readers = Readers(lambda rest: sides_by_nodes(nodes, rest), lambda rest: pairs_by_nodes(nodes, rest), lambda rest: node_of_cut(nodes, rest))
-        step = step_of(int(found[1]), place, found[2], found[3], readers)
-        if step.number != len(steps) + 1:
-            raise Wrong(place, "WrongNumber")
-        steps.append(step)
-        return False
-
-    for place, line in enumerate(lines[1:], 2):
-        try:
-            is_end = take(place, line)
-        except Malformed:
-            raise Wrong(place, "Malformed") from None
-        if is_end:
-            if place < len(lines):
-                raise Wrong(place + 1, "Malformed")
-            return Term(2, steps, len(nodes.by_number))
-    raise Wrong(len(lines) + 1, "NoEnd")
+def readers_by_nodes(nodes: Nodes) -> Readers:
+    """Readers of trees by the numbers of these nodes."""
+    return Readers(lambda rest: sides_by_nodes(nodes, rest), lambda rest: pairs_by_nodes(nodes, rest), lambda rest: node_of_cut(nodes, rest))
 
 
-# Reading version 1
-
-def read_version_1(lines: Sequence[str]) -> Term:
-    """The term of these lines, each with the texts of its trees."""
-    trees, steps = Trees(), list[Step]()
-    readers = Readers(lambda rest: reader.sequent(rest, trees), lambda rest: reader.pairs(rest, trees), lambda rest: reader.formula(rest, trees))
-    for place, line in enumerate(lines, 1):
-        if line == END and steps:
-            if place < len(lines):
-                raise Wrong(place + 1, "Malformed")
-            return Term(1, steps, None)
-        found = STEP_LINE.fullmatch(line)
-        try:
-            if found is None:
-                raise Malformed
-            step = step_of(int(found[1]), place, found[2], found[3], readers)
-        except (Malformed, reader.Wrong):
-            raise Wrong(place, "Malformed") from None
-        if step.number != place:
-            raise Wrong(place, "WrongNumber")
-        steps.append(step)
-    raise Wrong(len(lines) + 1, "NoEnd")
+def readers_of_texts() -> Readers:
+    """Readers of trees by their texts, as lines of version 1 have them."""
+    trees = Trees()
+    return Readers(lambda rest: reader.sequent(rest, trees), lambda rest: reader.pairs(rest, trees), lambda rest: reader.formula(rest, trees))
 
 
 def read(data: str | bytes) -> Term:
     """The term of a file of either version. Refused at its first wrong line."""
-    lines = lines_of(data)
-    return read_version_2(lines) if version_of(data) == 2 else read_version_1(lines)
+    lines, version, nodes, steps = lines_of(data), version_of(data), Nodes(), list[Step]()
+    readers = readers_by_nodes(nodes) if version == 2 else readers_of_texts()
+    for place, line in enumerate(lines[version - 1 :], version):
+        if line == END and steps:
+            if place < len(lines):
+                raise Wrong(place + 1, "Malformed")
+            return Term(version, steps, len(nodes.by_number) if version == 2 else None)
+        node = NODE_LINE.fullmatch(line) if version == 2 else None
+        try:
+            if node:
+                nodes.add(nodes.read(node[2], node[3]))
+                is_next = int(node[1]) == len(nodes.by_number)
+            else:
+                steps.append(step_of(place, line, readers))
+                is_next = steps[-1].number == len(steps)
+        except (Malformed, reader.Wrong):
+            raise Wrong(place, "Malformed") from None
+        if not is_next:
+            raise Wrong(place, "WrongNumber")
+    raise Wrong(len(lines) + 1, "NoEnd")
 
 
 # Writing

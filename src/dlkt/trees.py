@@ -5,7 +5,7 @@ of operators are those of node lines (docs/FILES.md), the texts those of docs/LA
 """
 
 import re
-from typing import NamedTuple, Sequence
+from typing import Iterator, NamedTuple, Sequence
 
 TERM, FORMULA, PROGRAM = "term", "formula", "program"
 MOST_NODES, MOST_DEPTH, MOST_ARGUMENTS, MOST_ITEMS, MOST_DIGITS = 65_536, 1_000, 8, 64, 38
@@ -122,6 +122,17 @@ class Trees:
         if key not in self.made:
             self.made[key] = Tree(word, detail, kids)
         return self.made[key]
+
+
+def parts(*trees: Tree) -> Iterator[Tree]:
+    """Each tree that is a part of these, once."""
+    waiting, seen = list(trees), set[int]()
+    while waiting:
+        tree = waiting.pop()
+        if id(tree) not in seen:
+            seen.add(id(tree))
+            waiting += tree.kids
+            yield tree
 
 
 # The sorts of kids

@@ -2,8 +2,6 @@
 
     dlkt words MODEL STRATEGY [--dlk PROGRAM]     prints each word with its lines
 
-`line_words(model, strategy)` gives for each line of the term that the strategy makes the byte of the word and its text, or none.
-
 How it knows. The strategy is run, and its lines are shared out among its words by their shapes: a rule makes one line of its name, a use
 of an axiom an instance and so many lines behind it, and so on. Shapes alone may mislead where a choice or a repeat has words alike. So
 the words that were found are written as a strategy without any choice to make: each choice stands as the part that was taken, behind
@@ -19,11 +17,27 @@ from pathlib import Path
 from typing import Collection, NamedTuple
 
 from dlkt import strategies
-from dlkt.calculus import AXIOMS, CONNECTIVES, DERIVES, LIBRARY, PREMISES, STEPS
-from dlkt.program import Answer, Name, Refused, answer, complaint_of, has_report, position, program_of, read_bytes, refusal_in
+from dlkt.calculus import AXIOMS, CONNECTIVES, DERIVES, PREMISES, STEPS
+from dlkt.program import Answer, Name, Refused, add_options, answer, complaint_of, has_report, position, program_of, read_bytes, refusal_in
 from dlkt.strategies import Argument, Atom, Branch, Choice, Part, Repeat, Sequence
 from dlkt.terms import readable
 
+# What a name of the library stands for at a place, as docs/STRATEGIES.md says it.
+EXPANSIONS = {
+    "prop": " | ".join(word if word.startswith("close") else f"{word}('{word[-1]})" for word in CONNECTIVES).join(("(", ")*200")),
+    "step": " | ".join(f"useAt({axiom},{{0}})" for axiom in STEPS),
+    "dC": "useAt(DC,{0})",
+    "dG": "useAt(DG,{0})",
+    "dW": "useAt(DWeq,{0}); G({0}); implyR(1)",
+    "dI": "useAt(DI,{0}); <(useAt(testb,{0}); implyR({0}), implyR({0}))",
+    "loop": "boxCut({0}); <(cutR({0}); <(nil, useAt(I,{0}); G({0}); implyR(1)), nil)",
+}
+# The lines of words that always make the same ones, of which `main` is the line before them, and how many goals they leave.
+FIXED = {
+    "leaf": ("leaf, merge {main} {goal} {next}", 0),
+    "G": ("rule G, subst, apply {main} {goal} coHideR(, merge", 1),
+    "boxCut": ("axiom K, subst, rule G, subst, apply {main} {goal} cutR(, apply, apply, merge, merge, apply", 2),
+}
 # A line that changes nothing of a goal but an empty one. It would show that what stands behind it didn't fail.
 MARK = '(exchangeR(1,1)|exchangeL(-1,-1)|cut("true"))'
 # How often another sharing of lines is tried.
@@ -70,7 +84,7 @@ class Sharing:
         if isinstance(node, Choice):
             return self.choice(node, goal)
         if isinstance(node, Repeat):
-            return self.repeat(node, goal)
+            return self.turns(node.body, node.times, goal)
         return self.sequence(node, goal)
 
     def attempt(self, node: Part, goal: int) -> Done | None:
@@ -117,12 +131,8 @@ class Sharing:
             failed.append(f"({MARK}; ({self.source(part)}))")
         raise Mismatch
 
-    def repeat(self, node: Repeat, goal: int) -> Done:
-        """The body, as often as its lines stand here."""
-        return self.turns(node.body, node.times, goal)
-
     def turns(self, body: Part, times: int, goal: int) -> Done:
-        """So many turns of a body. While there is one goal the texts stand one behind another."""
+        """A body as often as its lines stand here, so many times at most. While there is one goal the texts stand one behind another."""
         done = []
         while times > 0:
             before = self.at
@@ -170,22 +180,18 @@ class Sharing:
         name, arguments = atom.name, atom.arguments
         if name == "nil":
             return 1
-        if name == "leaf":
-            self.need("leaf")
-            self.need("merge", f"{self.at - 1} {goal} {self.at}")
-            return 0
+        if name in FIXED:
+            lines, left = FIXED[name]
+            self.all_of(lines.format(main=self.at, goal=goal, next=self.at + 1))
+            return left
         if name in PREMISES:
             return self.rule(name, arguments, goal)
         if name in ("useAt", "useBack"):
             return self.use(arguments[0].text, arguments[1], name == "useBack", goal)
         if name == "derive":
             return self.derive(arguments[0], goal)
-        if name == "G":
-            return self.generalized(goal)
-        if name == "boxCut":
-            return self.cut_box(goal)
-        if name in LIBRARY:
-            return self.library(name, arguments, goal)
+        if name in EXPANSIONS:
+            return self.library(name, arguments[-1].text if arguments else "", goal)
         raise Mismatch
 
     def need(self, word: str, rest: str = "") -> None:
@@ -212,22 +218,17 @@ class Sharing:
             raise Mismatch
         self.instance(axiom)
         if form == "R":
-            self.all_of("start apply merge leaf merge")
+            self.all_of("start, apply, merge, leaf, merge")
         if form in "RQ":
-            self.all_of("rule subst merge subst")
+            self.all_of("rule, subst, merge, subst")
         if form in "RQE":
-            self.all_of("rule subst merge")
+            self.all_of("rule, subst, merge")
         left_side = place.text.startswith(("-", "'L"))
         cut = "coHideR(" if form == "F" else "cutL(" if left_side else "cutR("
         index = "" if place.kind == "locator" else place.text.lstrip("-").split(".")[0]
         self.need("apply", f"{main} {goal} {cut}{index}")
-        if form == "C":
-            self.all_of("apply " * 10)
-        elif form == "I":
-            self.all_of("apply")
-        elif form != "F":
-            self.all_of("apply apply apply" if left_side == back else "apply apply")
-        self.need("merge")
+        count = {"C": 10, "I": 1, "F": 0}.get(form, 3 if left_side == back else 2)
+        self.all_of("apply, " * count + "merge")
         return {"C": 2, "F": 0}.get(form, 1)
 
     def instance(self, axiom: str) -> None:
@@ -238,10 +239,11 @@ class Sharing:
         if self.at < len(self.lines) and self.lines[self.at][0] == "subst":
             self.at += 1
 
-    def all_of(self, words: str) -> None:
-        """Passes over lines that begin with these words."""
-        for word in words.split():
-            self.need(word)
+    def all_of(self, lines: str) -> None:
+        """Passes over lines that begin so."""
+        for line in lines.split(", "):
+            word, _, rest = line.partition(" ")
+            self.need(word, rest)
 
     def derive(self, place: Argument, goal: int) -> int:
         """The uses of axioms that work out a `( )'`: each leaves as many as its operator has sides."""
@@ -254,67 +256,13 @@ class Sharing:
             left += DERIVES[axiom] - 1
         return 1
 
-    def generalized(self, goal: int) -> int:
-        """`G`: four lines."""
-        main = self.at
-        self.need("rule", "G")
-        self.need("subst")
-        self.need("apply", f"{main} {goal} coHideR(")
-        self.need("merge")
-        return 1
-
-    def cut_box(self, goal: int) -> int:
-        """`boxCut`: ten lines."""
-        main = self.at
-        self.need("axiom", "K")
-        self.need("subst")
-        self.need("rule", "G")
-        self.need("subst")
-        self.need("apply", f"{main} {goal} cutR(")
-        self.all_of("apply apply merge merge apply")
-        return 2
-
-    def library(self, name: str, arguments: Arguments, goal: int) -> int:
+    def library(self, name: str, place: str, goal: int) -> int:
         """A name of the library: the strategy for which it stands."""
-        place = arguments[-1] if arguments else Argument("place", "1", 0)
-        parts = expansion(name, place)
-        known = len(self.runs)
-        left, _ = self.on_one(parts, goal)
-        del self.runs[known:]
+        inner = Sharing(EXPANSIONS[name].format(place), self.lines, set())
+        inner.at = self.at
+        left, _ = inner.on_one(strategies.read(inner.text), goal)
+        self.at = inner.at
         return left
-
-
-def made_up(name: str, *arguments: Argument) -> Atom:
-    """A word that stands in no text."""
-    return Atom(0, 0, name, arguments)
-
-
-def used(axiom: str, place: Argument) -> Atom:
-    """`useAt(axiom,place)`, of which only the shape matters."""
-    return made_up("useAt", Argument("name", axiom, 0), place)
-
-
-def expansion(name: str, place: Argument) -> Part:
-    """What a name of the library stands for, as docs/STRATEGIES.md says it."""
-    first = made_up("implyR", Argument("place", "1", 0))
-    if name == "prop":
-        words = [made_up(word, Argument("locator", f"'{word[-1]}", 0)) for word in CONNECTIVES[3:]]
-        closing = [made_up("close"), *(made_up(word, Argument("locator", "", 0)) for word in ("closeTrue", "closeFalse"))]
-        return Repeat(0, 0, Choice(0, 0, (*closing, *words)), 200)
-    if name == "step":
-        return Choice(0, 0, tuple(used(axiom, place) for axiom in STEPS))
-    if name == "dC":
-        return used("DC", place)
-    if name == "dG":
-        return used("DG", place)
-    if name == "dW":
-        return Sequence(0, 0, (used("DWeq", place), made_up("G", place), first))
-    if name == "dI":
-        here = made_up("implyR", place)
-        return Sequence(0, 0, (used("DI", place), Branch(0, 0, (Sequence(0, 0, (used("testb", place), here)), here))))
-    kept = Branch(0, 0, (made_up("nil"), Sequence(0, 0, (used("I", place), made_up("G", place), first))))
-    cut = Sequence(0, 0, (made_up("cutR", place), kept))
-    return Sequence(0, 0, (made_up("boxCut", place), Branch(0, 0, (cut, made_up("nil")))))
 
 
 def side_by_side(texts: list[str]) -> str:
@@ -348,7 +296,7 @@ def shared(text: str, tree: Part, lines: list[Line], refuted: set[tuple[int, int
     sharing = Sharing(text, lines, refuted)
     try:
         _, done = sharing.on_one(tree, 1)
-    except (Mismatch, IndexError, RecursionError):
+    except (Mismatch, IndexError, RecursionError, strategies.Wrong):
         return None
     return (sharing.runs, done) if sharing.at == len(lines) else None
 
@@ -412,19 +360,6 @@ def words_of_lines(runs: list[Run] | None, count: int) -> list[tuple[int, str] |
     return words
 
 
-def line_words(model: Name, strategy: Name, program: str | None = None, term: Name | None = None) -> list[tuple[int, str] | None]:
-    """For each line of the term that a strategy makes, from the first on, the byte and the text of the word that made it, or none: of the
-    first line, which states the model, and of all lines where it can't be said. The term's last line, `done`, isn't counted."""
-    program = program_of(program)
-    text = read_bytes(strategy).decode("latin-1")
-    made, said = made_by(program, model, text)
-    if made is None:
-        raise Refused(complaint_of(said))
-    wanted = made if term is None else readable(read_bytes(term))
-    runs = runs_in(program, model, text, made) if wanted == made else None
-    return words_of_lines(runs, len(lines_of(wanted)))
-
-
 HELP = "says of each line of a term which word of the strategy made it"
 EXAMPLE = "dlkt words examples/car/model examples/car/strategy"
 
@@ -433,7 +368,7 @@ def add_words(parser: argparse.ArgumentParser) -> None:
     """The words of the command."""
     parser.add_argument("model")
     parser.add_argument("strategy")
-    parser.add_argument("--dlk", metavar="PROGRAM", help="the program (that of this checkout)")
+    add_options(parser, "--dlk")
 
 
 def run(given: argparse.Namespace) -> int:

@@ -24,7 +24,7 @@ import time
 from collections.abc import Iterator
 from pathlib import Path
 
-from dlkt.program import INTERRUPTED, TERM_BEGINS, Refused, one_line, program_of, put_at, read_bytes, refuse_bad_output, seconds
+from dlkt.program import INTERRUPTED, TERM_BEGINS, Refused, add_options, one_line, program_of, put_at, read_bytes, refuse_bad_output
 from dlkt.search.finding import Annotations, Finder, Found, Options, source_of
 from dlkt.search.lemmas import linked
 from dlkt.search.writing import explained
@@ -46,9 +46,9 @@ def add_words(parser: argparse.ArgumentParser) -> None:
     parser.add_argument("--term", metavar="TERM", help="where to put the term, with those of lemmas in it")
     parser.add_argument("--partial", action="store_true", help="also a strategy that leaves goals")
     parser.add_argument("--explain", action="store_true", help="say why each method didn't do, and what the strategy does")
-    parser.add_argument("--seconds", type=seconds, default=60, metavar="N", help="for the whole search (60)")
+    add_options(parser, "--seconds", default=60, help="for the whole search (60)")
     parser.add_argument("--annotations", choices=[one.value for one in Annotations], default="all", help="which @invariant(..) are used (all)")
-    parser.add_argument("--dlk", metavar="PROGRAM", help="the program (that of this checkout)")
+    add_options(parser, "--dlk")
 
 
 class Progress:

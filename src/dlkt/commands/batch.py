@@ -2,28 +2,10 @@
 
     dlkt batch FOLDER.. [-j N] [--no-search] [--dask ADDRESS] [--against TABLE] [--seconds N] [--json] [--dlk PROGRAM]
 
-A proof is a folder with a `model` and a `strategy` in it, or with a `model` and a `term`; each one below the named folders is looked at,
-also behind a link, N at a time (as many as there are processors). Where a name has what ends a line, an escape stands for it. Of a
-strategy the term is made anew, in a place of its own; nothing is written into the folders. Verified is what dlkt verify says is:
-closed, guarded, and all leaves valid by the solvers that are there. A table is printed, a line a proof, in the order of the names:
-
-    verdict       proof     guard       leaves   lines  seconds  folder
-    verified      closed    guarded     6/6        862      0.4  car
-    not-verified  refused   -           -            -      0.1  crane
-    # crane: strategy:3:7: fails: NoMatch
-    1 of 2 verified
-
-`6/6` are the leaves that are valid, and all. Behind a `#` stands why a proof isn't verified. With --against and a table that was printed
-before it is said last what changed since, but for the times. --json prints one object in place of all this.
-
-A folder with a `model` alone counts, too, but with --no-search or --dask: a strategy is searched for (docs/AUTO.md), for a minute at most.
-A strategy that is a sketch is turned into a plain one.
-
-With --dask the proofs are tasks of a Dask scheduler (Debian's python3-distributed) at this address, each with the bytes of its folder; what a
-worker had that is lost is done again. Workers need this package, the solvers, and the program: that of DLK there, or of the same path as here.
-
-The exit status is 0 where all are verified, 1 where one isn't, 2 where nothing could be looked at, 130 behind control-C, which ends all.
-Nothing of this is proved, but what the program proves.
+A proof is a folder with a `model` and a `strategy` in it, or with a `model` and a `term`; each one below the named folders is looked at, also behind a
+link. What is looked at, the table, --against, --dask and the exit statuses are told in docs/INSTALL.md ("Strategies in one table"). Where a name has what
+ends a line, an escape stands for it. Behind control-C, or where the process is ended, all ends that it started. Nothing of this is proved, but what the
+program proves.
 """
 
 import argparse
@@ -41,13 +23,12 @@ from pathlib import Path
 from typing import Any, Iterable, Iterator, Mapping, NamedTuple, Sequence
 
 from dlkt.commands.verify import at
-from dlkt.program import TERM_BEGINS, Refused, count, one_line, program_of, read_bytes, seconds
+from dlkt.program import TERM_BEGINS, Refused, add_options, one_line, program_of, read_bytes
 from dlkt.solvers import there
 from dlkt.verdict import Fault, Kind, Options, Source, Verdict, verdict_on
 
-WIDTHS = (14, 10, 12, 7, 7, 9)
+LINE = "{:<13} {:<9} {:<11} {:<6} {:>5}  {:>7}  {}"
 HEAD = ("verdict", "proof", "guard", "leaves", "lines", "seconds", "folder")
-NUMBERS = ("lines", "seconds")
 WORD, OTHER_WORD, NONE = "verified", "not-verified", "-"
 PATIENCE = 10  # seconds in which a scheduler must answer
 MOST_TRIES = 10  # how often a proof whose worker was lost, or whose task failed, is looked at again
@@ -78,12 +59,6 @@ def files_of(folder: Path) -> dict[str, bytes]:
     return {name: read_bytes(folder / name) for name in names}
 
 
-def verdict_of(files: Mapping[str, bytes], options: Options) -> Verdict:
-    """The verdict on a proof of these files."""
-    kind = Kind.STRATEGY if "strategy" in files else Kind.TERM
-    return verdict_on(Source("model", files["model"]), Source(str(kind), files[kind]), options._replace(kind=kind))
-
-
 def refusal_in_short(fault: Fault) -> str:
     """Why an input is refused, and where."""
     if fault.place is None or fault.text.startswith(("refused: line", "refused: other-conclusion")):
@@ -108,9 +83,9 @@ def row_of(name: str, verdict: Verdict, took: str) -> Row:
 
 def looked_at(name: str, files: Mapping[str, bytes], options: Options) -> Row:
     """The line of a proof, also where nothing can be said of it."""
-    begin = time.monotonic()
+    begin, kind = time.monotonic(), Kind.STRATEGY if "strategy" in files else Kind.TERM
     try:
-        verdict = verdict_of(files, options)
+        verdict = verdict_on(Source("model", files["model"]), Source(str(kind), files[kind]), options._replace(kind=kind))
         return row_of(name, verdict, f"{time.monotonic() - begin:.1f}")
     except Refused as why:
         return unknown(name, str(why))
@@ -281,24 +256,6 @@ def row_by_worker(name: str, work: Any) -> Row:
 
 # The table
 
-def line_of(cells: Sequence[str]) -> str:
-    """A line of the table. Numbers stand on the right of their columns."""
-    before = [
-        f"{cell:>{width - 2}}  " if head in NUMBERS else f"{cell:<{width}}" for cell, width, head in zip(cells, WIDTHS, HEAD)
-    ]
-    return "".join(cell if cell.endswith(" ") else f"{cell} " for cell in before) + cells[-1]
-
-
-def lines_of(row: Row) -> list[str]:
-    """The lines of a proof."""
-    return [line_of(row[: len(HEAD)]), *([f"# {row.folder}: {row.why}"] if row.why else [])]
-
-
-def last_line(rows: Sequence[Row]) -> str:
-    """How many are verified."""
-    return f"{sum(row.verdict == WORD for row in rows)} of {len(rows)} verified"
-
-
 def rows_in(name: str) -> list[Row]:
     """The rows of a table that was printed before."""
     lines = [line for line in read_bytes(name).decode("utf-8", "replace").split("\n") if line.strip() and not line.startswith("#")]
@@ -336,12 +293,12 @@ def object_of(row: Row) -> dict[str, Any]:
 
 def print_table(rows: Iterable[Row]) -> list[Row]:
     """Prints the table, a line as it comes, and gives its rows."""
-    print(line_of(HEAD), flush=True)
+    print(LINE.format(*HEAD), flush=True)
     told = []
     for row in rows:
         told.append(row)
-        print("\n".join(lines_of(row)), flush=True)
-    print(last_line(told))
+        print(LINE.format(*row), *([f"# {row.folder}: {row.why}"] if row.why else []), sep="\n", flush=True)
+    print(f"{sum(row.verdict == WORD for row in told)} of {len(told)} verified")
     return told
 
 
@@ -352,13 +309,11 @@ EXAMPLE = "dlkt batch examples/gallery -j 2"
 def add_words(parser: argparse.ArgumentParser) -> None:
     """The words of the command."""
     parser.add_argument("folders", nargs="+", metavar="FOLDER")
-    parser.add_argument("-j", dest="jobs", type=count, default=os.cpu_count() or 1, metavar="N", help="so many at a time")
+    add_options(parser, "-j", help="so many at a time")
     parser.add_argument("--no-search", dest="search", action="store_false", help="leave out the folders that have a model alone")
     parser.add_argument("--dask", metavar="ADDRESS", help="hand the proofs to the workers of this Dask scheduler")
     parser.add_argument("--against", metavar="TABLE", help="say what changed since this table was printed")
-    parser.add_argument("--seconds", type=seconds, default=20, metavar="N", help="for each leaf and solver (20)")
-    parser.add_argument("--json", action="store_true", help="print one object")
-    parser.add_argument("--dlk", metavar="PROGRAM", help="the program (that of this checkout)")
+    add_options(parser, "--seconds", "--json", "--dlk")
     parser.add_argument("--one", metavar="NAME", help=argparse.SUPPRESS)
 
 

@@ -19,7 +19,7 @@ import sys
 from pathlib import Path
 from typing import TYPE_CHECKING
 
-from dlkt.program import one_line, program_of, seconds
+from dlkt.program import add_options, one_line, program_of
 
 if TYPE_CHECKING:
     from dlkt.archive.folders import Carried
@@ -40,8 +40,8 @@ def add_words(parser: argparse.ArgumentParser) -> None:
     parser.add_argument("--print", action="store_true", help="print the models, and write nothing")
     parser.add_argument("--check", action="store_true", help="compare the definitions with what dlk subst makes of them")
     parser.add_argument("--prove", action="store_true", help="prove each entry, and write its strategy")
-    parser.add_argument("--seconds", type=seconds, default=60, metavar="N", help="for each search (60)")
-    parser.add_argument("--dlk", metavar="PROGRAM", help="the program (that of this checkout)")
+    add_options(parser, "--seconds", default=60, help="for each search (60)")
+    add_options(parser, "--dlk")
 
 
 class Importer:

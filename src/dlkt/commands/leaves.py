@@ -17,10 +17,9 @@ The exit status is 0 where all leaves are valid, else 1, and 2 where none could 
 
 import argparse
 import json
-import os
 
 from dlkt.leaves import POWER, WAY_OUT, LeafAnswer, asked, each_says_so, listed, scripts_of
-from dlkt.program import Refused, count, program_of, seconds
+from dlkt.program import Refused, add_options, program_of
 from dlkt.solvers import KINDS, Solvers, Word, there
 
 HELP = "asks the solvers for each leaf of a proof"
@@ -36,13 +35,6 @@ def line_of(number: int, said: LeafAnswer) -> str:
     apart = ", ".join(f"{solver} says {word}" for solver, word in said.by.items()) if len(set(said.by.values())) > 1 else ""
     parts = [f"leaf {number}: {said.word}" + (f" at {where}" if where else ""), apart and f"for {apart}", instead and f"with {instead}"]
     return ", ".join(part for part in parts if part)
-
-
-def object_of(number: int, said: LeafAnswer) -> dict[str, object]:
-    """What --json prints of a leaf."""
-    return {
-        "leaf": number, "answer": said.word, "values": said.values, "computed": said.computed, "by": said.by, "values_by": said.values_by,
-    }
 
 
 def names_of_solvers(wants_all: bool) -> list[str]:
@@ -61,10 +53,7 @@ def add_words(parser: argparse.ArgumentParser) -> None:
     parser.add_argument("model")
     parser.add_argument("term")
     parser.add_argument("--all-solvers", action="store_true", help="wait for z3 and cvc5: a leaf is valid where both say so")
-    parser.add_argument("-j", dest="jobs", type=count, default=os.cpu_count() or 1, metavar="N", help="so many leaves at a time")
-    parser.add_argument("--seconds", type=seconds, default=20, metavar="N", help="for each leaf and solver (20)")
-    parser.add_argument("--json", action="store_true", help="print one object")
-    parser.add_argument("--dlk", metavar="PROGRAM", help="the program (that of this checkout)")
+    add_options(parser, "-j", "--seconds", "--json", "--dlk")
 
 
 def run(options: argparse.Namespace) -> int:
@@ -79,5 +68,5 @@ def run(options: argparse.Namespace) -> int:
                 print(line_of(number, told[-1]), flush=True)
     all_valid = all(said.word == Word.VALID for said in told)
     if options.json:
-        print(json.dumps({"all_valid": all_valid, "leaves": [object_of(number, said) for number, said in enumerate(told, 1)]}))
+        print(json.dumps({"all_valid": all_valid, "leaves": [{"leaf": number, **said.as_object()} for number, said in enumerate(told, 1)]}))
     return 0 if all_valid else 1

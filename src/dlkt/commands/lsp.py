@@ -5,7 +5,7 @@ The exit status is 0 where the editor said that it ends, 1 where the stream ende
 
 import argparse
 
-from dlkt.program import program_of, seconds
+from dlkt.program import add_options, program_of
 
 HELP = "a language server for editors: goals, failures and leaves where the cursor is"
 EXAMPLE = "dlkt lsp    (an editor starts it; docs/EDITORS.md)"
@@ -13,9 +13,9 @@ EXAMPLE = "dlkt lsp    (an editor starts it; docs/EDITORS.md)"
 
 def add_words(parser: argparse.ArgumentParser) -> None:
     """The words of the command."""
-    parser.add_argument("--seconds", type=seconds, default=10, metavar="N", help="for each leaf (10)")
+    add_options(parser, "--seconds", default=10, help="for each leaf (10)")
     parser.add_argument("--stdio", action="store_true", help="as some editors say; it is so anyway")
-    parser.add_argument("--dlk", metavar="PROGRAM", help="the program (that of this checkout)")
+    add_options(parser, "--dlk")
 
 
 def run(options: argparse.Namespace) -> int:

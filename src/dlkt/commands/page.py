@@ -3,13 +3,8 @@
     dlkt page MODEL PROOF > page.html
     dlkt page MODEL PROOF --output PAGE [--title TITLE] [--seconds N] [-j N] [--dlk PROGRAM]
 
-PROOF is a strategy, or a term. The page has the model, laid out; the verdict of dlkt verify, and what it rests on; what the guard says; the strategy,
-with the goals on which each of its words ran; the leaves with the answers of the solvers; the tree of the proof by these words; and the files, with
-their sizes and hashes. Whoever gets the page can save the files from it, and check them again. Of a strategy that fails the page ends where it fails:
-it says why and on which goals, and its proof is that of the strategy up to there. Of a term in which lemmas are linked it says which lines are
-theirs. A PAGE that is an input, or has something else than a page in it, isn't written over.
-
-Each formula stands on the page once: what is shown of goals and leaves is made from there, by the page's script.
+PROOF is a strategy, or a term. What the page has is told in docs/INSTALL.md ("A page to hand on"). Each formula stands on it once: what is shown of
+goals and leaves is made from there, by the page's script. A PAGE that is an input, or has something else than a page in it, isn't written over.
 
 The exit status is 0 where a page is written, also of a proof that isn't verified, 2 where there is no proof to write of, or none can be
 made, in one line that says why, and 130 behind control-C. Nothing of this is proved, but what the program proves.
@@ -28,13 +23,12 @@ from typing import NamedTuple, Sequence
 from dlkt import reader, strategies
 from dlkt.commands.print import printed_model
 from dlkt.commands.tree import UNTOLD, Drawing, Sequent, Table, Told, filled, part, refuse_bad_page, script_data, summary, told_by, tree, trees_of, write_page
-from dlkt.commands.verify import GUARD_WHY, WHY, source_of
+from dlkt.commands.verify import source_of, why_refused, why_unguarded
 from dlkt.layout import WIDTH
 from dlkt.leaves import listed
-from dlkt.program import Refused, answer, count, has_report, position, program_of, report_of, seconds
+from dlkt.program import Refused, add_options, answer, has_report, position, program_of, report_of
 from dlkt.strategies import Branch, Choice, Part
 from dlkt.terms import in_version_1
-from dlkt.typeset import formula
 from dlkt.verdict import Fault, Guard, Kind, Leaf, Options, Proof, Spot, Verdict, counted, verdict_on
 from dlkt.words import Run, runs_in
 
@@ -179,8 +173,8 @@ def title_of(model: str) -> str:
 # The parts of the page
 
 def source(data: bytes) -> str:
-    """A text as it was written, with its comments set apart."""
-    return formula(data.decode("utf-8", "replace"))
+    """A text as it was written, which the page's script sets."""
+    return f'<span class="text">{html.escape(data.decode("utf-8", "replace"))}</span>'
 
 
 def model(data: bytes) -> str:
@@ -219,20 +213,17 @@ def said_of_lemmas(proof: Proof) -> str:
     """Which lines of a linked proof are those of lemmas."""
     rows = "".join(
         f"<div>lines {lemma.first:,} to {lemma.last:,}: {counted(lemma.goals, 'goal')} proved with "
-        f"<code>{formula(lemma.conclusion)}</code></div>" for lemma in proof.lemmas
+        f'<code class="text">{html.escape(lemma.conclusion)}</code></div>' for lemma in proof.lemmas
     )
     return f"<b>linked</b>. This proof has lemmas that were proved by themselves and put in: {rows}"
 
 
 def said_of_fault(found: Found, fault: Fault) -> str:
     """Where and why a strategy fails."""
-    why = WHY.get(fault.why, fault.why)
-    if fault.parts is not None and fault.count_of_goals is not None:
-        why = f"the branch has {counted(fault.parts, 'part')}, and there are {counted(fault.count_of_goals, 'goal')}"
     place = f"{html.escape(where(fault.place))}: " if fault.place else ""
     lines = f'<pre class="source">{html.escape(fault.place.source)}\n<b class="bad">{html.escape(fault.place.caret)}</b></pre>' if fault.place else ""
     met = goals_left(found, fault.goals[:GOALS_SHOWN], "it meets goal" if fault.parts is not None else "it fails on goal")
-    said = f'<b class="bad">the strategy fails</b>. {place}{html.escape(fault.why)}: {html.escape(why)}. {lines}{met}'
+    said = f'<b class="bad">the strategy fails</b>. {place}{html.escape(why_refused(fault))}. {lines}{met}'
     return said + f"<p>The proof below is that of the strategy up to there: {counted(len(found.drawing.lines) - 1, 'line')}.</p>"
 
 
@@ -241,9 +232,8 @@ def said_of_guard(guard: Guard) -> str:
     if guard.is_guarded:
         said = "<b>guarded</b>. No line rests on a place where the written calculus isn't sound over the reals. That this prints so only where the"
         return said + " definition of guarded holds is proved; that it is enough is argued on paper, in docs/SOUNDNESS.md."
-    why = GUARD_WHY.get((guard.why or "").split(" ")[0], "")
     made = f" Made by <code>{html.escape(guard.made_by.word)}</code>, {html.escape(where(guard.made_by.place))}." if guard.made_by else ""
-    return f'<b class="bad">{html.escape(guard.text)}</b>' + (f": {html.escape(why)}." if why else ".") + made
+    return f'<b class="bad">{html.escape(guard.text)}</b>{html.escape(why_unguarded(guard))}.{made}'
 
 
 def rests(found: Found) -> str:
@@ -258,7 +248,8 @@ def rests(found: Found) -> str:
     if verdict.guard:
         rows.append(rest_of("Guard", said_of_guard(verdict.guard)))
         rows.append(rest_of("Leaves", leaves_in_short(verdict)))
-    rows.append(rest_of("Program", f"dlk, {size_of(Path(found.program).read_bytes())}"))
+    data = Path(found.program).read_bytes()
+    rows.append(rest_of("Program", f'dlk, {len(data):,} bytes, sha256 <span class="hash">{hashlib.sha256(data).hexdigest()}</span>'))
     return "\n".join([*rows, *(rest_of("Hint", f"{html.escape(where(hint.place))}: {html.escape(hint.text)}") for hint in verdict.hints)])
 
 
@@ -352,11 +343,6 @@ def visits(found: Found) -> list[list[object]]:
     return told
 
 
-def size_of(data: bytes) -> str:
-    """The size and the hash of a file."""
-    return f'{len(data):,} bytes, sha256 <span class="hash">{hashlib.sha256(data).hexdigest()}</span>'
-
-
 def files(found: Found) -> str:
     """The files, with what is needed to check them again."""
     all_of = {"model": found.verdict.model.data, "strategy": found.strategy, "term": found.term}
@@ -417,9 +403,7 @@ def add_words(parser: argparse.ArgumentParser) -> None:
     parser.add_argument("proof", metavar="PROOF", help="a strategy, or a term")
     parser.add_argument("-o", "--output", metavar="PAGE", default="-", help="where to write it (standard output)")
     parser.add_argument("--title", help="what the page is called")
-    parser.add_argument("--seconds", type=seconds, default=20, metavar="N", help="for each leaf and solver (20)")
-    parser.add_argument("-j", dest="jobs", type=count, default=os.cpu_count() or 1, metavar="N", help="so many leaves at a time")
-    parser.add_argument("--dlk", metavar="PROGRAM", help="the program (that of this checkout)")
+    add_options(parser, "--seconds", "-j", "--dlk")
 
 
 def run(options: argparse.Namespace) -> int:

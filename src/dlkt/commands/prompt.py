@@ -17,13 +17,8 @@ session`, whose lines are run first. Other lines:
 
 A line goes on where a bracket, quotes or a comment is open at its end, or where it ends in `;`, `,` or `|`; an empty line ends it in any case.
 
-After each line the program runs the whole script so far, anew: nothing is shown but what it says. What fails leaves no trace in the script. It works on
-a copy of MODEL, and writes over no file but those that it wrote itself. It ends with `quit` or control-D; what isn't saved then is printed. Control-C
-clears the line at a terminal, and stops what is at work; where lines are read from elsewhere it ends the prompt. The exit status is 0 where no goals
-are left, 1 where some are, 2 where an input is refused, and 130 behind control-C.
-
-Where standard input is no terminal, lines are read from it, and shown as a terminal would show them. At a terminal it needs prompt_toolkit (Debian:
-python3-prompt-toolkit), and completes with Tab: words of strategies, and names of the model in quotes.
+What it keeps, and what it needs at a terminal, is told in docs/FILES.md ("A prompt"). Where standard input is no terminal, lines are read from it, and
+shown as a terminal would show them.
 """
 
 import argparse
@@ -36,7 +31,7 @@ from typing import Callable, Iterable, Sequence
 
 from dlkt.layout import laid_out_goal
 from dlkt.leaves import exported_alone, listed
-from dlkt.program import INTERRUPTED, Refused, program_of, seconds
+from dlkt.program import INTERRUPTED, Refused, add_options, program_of
 from dlkt.search.finding import Options, expand_line
 from dlkt.search.sketches import is_sketch
 from dlkt.session import APPLY, Failure, Proof, as_typed, changes
@@ -346,8 +341,8 @@ def add_words(parser: argparse.ArgumentParser) -> None:
     """The words of the command."""
     parser.add_argument("model", metavar="MODEL")
     parser.add_argument("script", metavar="SCRIPT", nargs="?", help="a script of `dlk session`, whose lines are run first")
-    parser.add_argument("--seconds", type=seconds, default=10, metavar="N", help="for each question to the solvers (10)")
-    parser.add_argument("--dlk", metavar="PROGRAM", help="the program (that of this checkout)")
+    add_options(parser, "--seconds", default=10, help="for each question to the solvers (10)")
+    add_options(parser, "--dlk")
 
 
 def run(given: argparse.Namespace) -> int:

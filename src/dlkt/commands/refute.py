@@ -31,7 +31,7 @@ import threading
 from typing import Any, Callable
 
 from dlkt import reader, semantics
-from dlkt.program import Refused, position, read_bytes, seconds
+from dlkt.program import Refused, add_options, position, read_bytes
 from dlkt.trees import Tree, Trees
 
 HELP = "looks for a run that breaks a model"
@@ -54,8 +54,8 @@ def add_words(parser: argparse.ArgumentParser) -> None:
     """The words of the command."""
     parser.add_argument("model")
     parser.add_argument("--rounds", type=rounds, default=3, metavar="N", help="loops run so many rounds at most in all (3)")
-    parser.add_argument("--seconds", type=seconds, default=20, metavar="S", help="how long is searched at most (20)")
-    parser.add_argument("--json", action="store_true", help="one object in place of the table")
+    add_options(parser, "--seconds", metavar="S", help="how long is searched at most (20)")
+    add_options(parser, "--json", help="one object in place of the table")
     parser.add_argument("--plot", metavar="OUT", help="draws the run: a file that ends in .svg, .png or .pdf")
     parser.add_argument("--seed", type=int, default=1, metavar="N", help="another start to what is tried at random (1)")
 

@@ -2,45 +2,33 @@
 
     dlkt tree TERM [PAGE] [--model MODEL --strategy STRATEGY] [--depth N] [--dlk PROGRAM]
 
-PAGE is TERM.html where it isn't given, and - is standard output. An input, or a file with something else than a page, isn't written
-over. It stands for itself: one file, no network. It has the tree of the last line: at its root what is proved, below each goal those that are
-left of it, and at the ends axioms, leaves and open goals. Below depth N (12) the tree is folded.
+PAGE is TERM.html where it isn't given, and - is standard output: one file for a browser without a network, with the tree of the last line. At its root
+stands what is proved, below each goal those that are left of it, and at the ends axioms, leaves and open goals. docs/INSTALL.md ("A picture of a
+proof") says more of it. With the model and the strategy that made the term, the lines of a word of the strategy are one node: for that the strategy
+is run again. Where it makes another term, or it can't be said which word made which line, the page has the lines, and standard error says so.
 
-With the model and the strategy that made the term, the lines of a word of the strategy are one node, which a click opens: for that the
-strategy is run again. Where it makes another term, or it can't be said which word made which line, the page has the lines, and
-standard error says so.
-
-Each row begins with what changed against the row above it: the formulas of the goal that the goal above doesn't have, with their places.
-Behind them stand the others.
-
-Nothing is checked here: that is the work of `dlk check`. The shape follows from the lines alone: which line works on which
-goal, and how many premises its rule has. A term may be of either version; lines are numbered as its steps are. The goals are those that the
-lines give, and what the rules for connectives, cuts and the structure of a sequent make of them; where that isn't enough, a formula is shown
-as dots. The page has each formula once, as a term of version 2 has it, and makes the texts of them itself.
+Nothing is checked here: that is the work of `dlk check`. The shape follows from the lines alone: which line works on which goal, and how many premises
+its rule has. The goals are those that the lines give, and what the rules for connectives, cuts and the structure of a sequent make of them; where that
+isn't enough, a formula is shown as dots. The page has each formula once, as a term of version 2 has it, and makes the texts of them itself.
 """
 import argparse
 import html
 import importlib.resources
 import json
-import pathlib
 import re
 import sys
 from typing import Callable, Iterable, NamedTuple, Sequence
 
 from dlkt import reader as texts
-from dlkt.calculus import PREMISES
+from dlkt.calculus import AXIOMATIC_RULES, PREMISES
 from dlkt.layout import laid_out
-from dlkt.program import Name, Refused, are_same_file, position, read_bytes
+from dlkt.program import Name, Refused, add_options, position, put_at, read_bytes, refuse_bad_output
 from dlkt.terms import Numbering, Step, Term, read, trees_in
-from dlkt.trees import BRACKETS, PROGRAM, ROWS, Tree, Trees, text
+from dlkt.trees import BRACKETS, PROGRAM, ROWS, Tree, Trees, parts, text
 from dlkt.words import Run, word_runs
 
 PAGES = importlib.resources.files("dlkt") / "pages"
 
-# The premise of each axiomatic rule over its symbols.
-AXIOMATIC = {
-    "G": "p(||)", "allgen": "p(||)", "mon": "p(||) -> q(||)", "CE": "p(||) <-> q(||)", "CT": "f(||) = g(||)", "CQ": "f(||) = g(||)",
-}
 # The operators of the formulas at which rules work, by the rules' names without L and R.
 RULE_WORDS = {
     "not": ("not",), "and": ("and",), "or": ("or",), "imply": ("imply",), "equiv": ("equiv",), "skolem": ("forall", "exists"),
@@ -218,14 +206,8 @@ class Drawing:
 def trees_of(term: Term) -> Trees:
     """Where the trees of a term were made, and all that are their parts: so that what is made of them is the same tree where it is one of them."""
     trees = Trees()
-    waiting = [tree for step in term.steps for tree in trees_in(step)]
-    seen = set[int]()
-    while waiting:
-        tree = waiting.pop()
-        if id(tree) not in seen:
-            seen.add(id(tree))
-            trees.made[tree.word, tree.detail, tuple(map(id, tree.kids))] = tree
-            waiting += tree.kids
+    for tree in parts(*(tree for step in term.steps for tree in trees_in(step))):
+        trees.made[tree.word, tree.detail, tuple(map(id, tree.kids))] = tree
     return trees
 
 
@@ -253,7 +235,7 @@ class Goals:
                     raise Wrong(f"line {node.line}: {line.rule}({line.inside}) names no place of its goal") from fault
                 for kid, sequent in zip(node.kids, found):
                     kid.sequent = kid.sequent or sequent
-            if line is not None and line.word == "subst" and node.kids[0].kids and node.kids[0].name in AXIOMATIC:
+            if line is not None and line.word == "subst" and node.kids[0].kids and node.kids[0].name in AXIOMATIC_RULES:
                 goal = node.kids[0].kids[0]
                 goal.sequent = goal.sequent or self.premise_of_instance(node.kids[0].name, line.step.pairs or [])
             waiting.extend(node.kids)
@@ -319,7 +301,7 @@ class Goals:
 
     def premise_of_instance(self, name: str, pairs: Sequence[tuple[str, Tree]]) -> Sequent | None:
         """The premise of an axiomatic rule behind a substitution of these pairs, where each of its symbols has one."""
-        premise, replaced = texts.formula(AXIOMATIC[name], self.trees), dict(pairs)
+        premise, replaced = texts.formula(AXIOMATIC_RULES[name][0], self.trees), dict(pairs)
         if not premise.kids:
             return (), (replaced.get(text(premise), premise),)
         first, second = (replaced.get(text(symbol), symbol) for symbol in premise.kids)
@@ -376,7 +358,7 @@ class Table:
     def lay_out(self, sequent: Sequent) -> None:
         """Has the formulas of a sequent laid out, where they are long and have programs."""
         for tree in (*sequent[0], *sequent[1]):
-            if tree is not None and len(text(tree)) > LONG and has_program(tree):
+            if tree is not None and len(text(tree)) > LONG and any(part.sort == PROGRAM for part in parts(tree)):
                 self.laid[int(self.formula(tree))] = laid_out(tree, width=NARROW)
 
     def given(self, depth: int, told: Told) -> dict[str, object]:
@@ -395,17 +377,6 @@ class Table:
             "operators": operators(), "term": self.text(), "more": self.more, "sequents": list(self.sequents), "laid": self.laid, "nodes": nodes,
             "words": told.words, "depth": depth,
         }
-
-
-def has_program(tree: Tree) -> bool:
-    """Whether a program stands in a tree."""
-    waiting = [tree]
-    while waiting:
-        here = waiting.pop()
-        if here.sort == PROGRAM:
-            return True
-        waiting += here.kids
-    return False
 
 
 def operators() -> dict[str, list[object]]:
@@ -462,18 +433,10 @@ def told_of(given: argparse.Namespace) -> Told:
     return told_by(runs, read_bytes(given.strategy))
 
 
-def refuse_bad_page(target: str, inputs: Iterable[Name]) -> None:
-    """Refuses a PAGE that is an input, or has something else than a page in it."""
-    if target == "-":
-        return
-    if any(are_same_file(target, name) for name in inputs):
-        raise Refused(f"{target} is an input, which isn't written over")
-    path = pathlib.Path(target)
-    if path.is_file():
-        with path.open("rb") as file:
-            first = file.read(len(FIRST_BYTES))
-        if first not in (b"", FIRST_BYTES):
-            raise Refused(f"{target} holds something else than a page: it isn't written over; name another file, or remove it")
+def refuse_bad_page(target: str, inputs: Sequence[Name]) -> None:
+    """Refuses a PAGE that is an input, can't be written, or has something else than a page in it."""
+    if target != "-":
+        refuse_bad_output(target, inputs, [FIRST_BYTES], "a page")
 
 
 def write_page(target: str, said: str) -> None:
@@ -482,7 +445,7 @@ def write_page(target: str, said: str) -> None:
     if target == "-":
         sys.stdout.buffer.write(data)
     else:
-        pathlib.Path(target).write_bytes(data)
+        put_at(data, target)
 
 
 HELP = "draws the proof of a term as one page for a browser"
@@ -496,7 +459,7 @@ def add_words(parser: argparse.ArgumentParser) -> None:
     parser.add_argument("--model", help="the model of the term, for the words of a strategy")
     parser.add_argument("--strategy", help="the strategy that made the term: the lines of a word become one node")
     parser.add_argument("--depth", type=int, default=12, metavar="N", help="below this depth the lines are folded at first (12)")
-    parser.add_argument("--dlk", metavar="PROGRAM", help="the program (that of this checkout)")
+    add_options(parser, "--dlk")
 
 
 def run(given: argparse.Namespace) -> int:

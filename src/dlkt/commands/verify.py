@@ -2,40 +2,9 @@
 
     dlkt verify FILE [PROOF] [-o TERM] [-j N] [--all-solvers] [--seconds N] [--json] [--watch] [--dlk PROGRAM]
 
-FILE is a model, and PROOF a strategy or a term, which its first bytes tell. A PROOF that is a sketch, with words of `dlkt auto` in it, is turned into
-a plain strategy first; where no PROOF is named one is searched for (docs/AUTO.md), for a minute at most. What is found is judged as any other. The
-term that a strategy makes is put at TERM only where the strategy ends, with goals left or without. A TERM that is an input, by its name, by a link or
-by another path, is refused, and so is one that holds something else than a term. No input is ever written.
-
-Printed are, line by line:
-
-    PROOF:3:7: fails: NoMatch: ..           where the strategy fails, and why, with the line, a caret, and the goals on which it fails, each
-                                            formula with its place; so, too, where a file can't be read
-    linked: lines 15 to 34 ..               of a term in which lemmas are linked which lines are a lemma's, and what it says
-    goal 1                                  each goal that is left, likewise
-    leaf 1: x>=0 ==> x+1>=1                 each leaf, and below it what z3 and cvc5 say, those of them that are on PATH: `valid`, `false`
-        z3: valid                           with values, `unknown`, or `power` where it has no SMT-LIB text; where it isn't valid also
-                                            which word of the strategy made it. The first that knows decides; with --all-solvers all answer
-    guarded                                 or the first line that isn't, and the word of the strategy that made it
-    FILE:1:5: hint: ..                      what looks wrong, and has no influence on the verdict
-    verified: ..                            last: `verified` where the proof is closed and guarded, and each leaf is valid by a solver
-                                            and false by none, with what it rests on; else `not verified`, and why
-
-`dlkt verify ARCHIVE [--entry NAME]` reads an archive of KeYmaera X (docs/KEYMAERAX.md): it prints the model of each entry, proves it by its tactics,
-else by the search, and ends with a verdict a line for each entry. The exit status is the worst of them.
-
---json prints one object in place of this, --watch does it again at each change of FILE or PROOF, until control-C.
-
-The exit status is
-    0   verified
-    1   goals are left, or no proof is found
-    2   the model or the proof is refused, or the strategy fails
-    3   closed, and a leaf isn't valid, or wasn't asked, or a line isn't guarded
-    4   nothing is known: the words, a file, the program, or TERM
-    5   no PROOF was named, and a run breaks the model
-    130 control-C
-
-Nothing here is proved but what the program proves: that the proof is closed, and what the guard's line says.
+What it takes and prints, and its exit statuses, are told in docs/FILES.md ("One verdict"), what it does of an archive in docs/KEYMAERAX.md, and how it
+searches where no PROOF is named in docs/AUTO.md. Nothing here is proved but what the program proves: that the proof is closed, and what the
+guard's line says.
 """
 
 import argparse
@@ -48,8 +17,8 @@ from typing import TYPE_CHECKING, Any, Callable, Sequence
 
 from dlkt.archive import is_archive
 from dlkt.leaves import NOT_ASKED, POWER, WAY_OUT, listed
-from dlkt.program import TERM_BEGINS, Refused, count, numbered, one_line, program_of, put_at, read_bytes, refuse_bad_output, seconds, shown
-from dlkt.verdict import NOTHING_KNOWN, OPEN, REFUTED, Fault, Guard, Kind, Leaf, Maker, Options, Piece, Proof, Source, Spot, Verdict
+from dlkt.program import TERM_BEGINS, Refused, add_options, numbered, one_line, program_of, put_at, read_bytes, refuse_bad_output, shown
+from dlkt.verdict import NOTHING_KNOWN, OPEN, REFUTED, Fault, Guard, Hint, Kind, Leaf, Maker, Options, Piece, Proof, Source, Spot, Verdict
 from dlkt.verdict import counted, is_said_of, verdict_on
 
 if TYPE_CHECKING:
@@ -106,16 +75,26 @@ def underlined(place: Spot) -> list[str]:
     return [f"    {place.source[begin : begin + LONGEST]}", f"    {place.caret[begin:]}"]
 
 
+def why_refused(fault: Fault) -> str:
+    """Why a model or a proof is refused."""
+    if fault.parts is not None and fault.count_of_goals is not None:
+        there = "there is" if fault.count_of_goals == 1 else "there are"
+        return f"{fault.why}: the branch has {counted(fault.parts, 'part')}, and {there} {counted(fault.count_of_goals, 'goal')}"
+    return f"{fault.why}: {WHY[fault.why]}" if fault.why in WHY else fault.why
+
+
+def why_unguarded(guard: Guard) -> str:
+    """What stands behind the guard's words on a line that isn't guarded."""
+    said = GUARD_WHY.get((guard.why or "").split(" ")[0], "")
+    return f": {said}" if said else ""
+
+
 def lines_of_fault(fault: Fault) -> list[str]:
     """The lines of a refusal."""
     if fault.place is None:
         return [f"{one_line(fault.file)}: {fault.text}"]
-    said = f"{fault.why}: {WHY[fault.why]}" if fault.why in WHY else fault.why
-    if fault.parts is not None and fault.count_of_goals is not None:
-        there = "there is" if fault.count_of_goals == 1 else "there are"
-        said = f"{fault.why}: the branch has {counted(fault.parts, 'part')}, and {there} {counted(fault.count_of_goals, 'goal')}"
     is_failure = fault.text.startswith("refused: fails")
-    lines = [f"{at(fault.place)}: {'fails' if is_failure else 'refused'}: {said}", *underlined(fault.place)]
+    lines = [f"{at(fault.place)}: {'fails' if is_failure else 'refused'}: {why_refused(fault)}", *underlined(fault.place)]
     several = len(fault.goals) > 1
     met = "it meets" if fault.parts is not None else "it fails on"
     for number, goal in enumerate(fault.goals[: None if fault.parts else MOST_SHOWN], 1):
@@ -156,25 +135,22 @@ def lines_of_guard(guard: Guard) -> list[str]:
     """The lines of what the guard says."""
     if guard.is_guarded:
         return ["guarded"]
-    said = GUARD_WHY.get((guard.why or "").split(" ")[0], "")
-    lines = [guard.text + (f": {said}" if said else "")]
+    lines = [guard.text + why_unguarded(guard)]
     if guard.made_by:
         place = guard.made_by.place
         return [*lines, f"{at(place)}: unguarded: {guard.made_by.word} made line {guard.line}", *underlined(place)]
     return lines
 
 
+SAID: dict[type, Callable[[Any], list[str]]] = {
+    Proof: lines_of_proof, Fault: lines_of_fault, Leaf: lines_of_leaf, Guard: lines_of_guard,
+    Hint: lambda hint: [f"{at(hint.place)}: hint: {hint.text}"],
+}
+
+
 def lines_of(piece: Piece) -> list[str]:
     """The lines of what was found."""
-    if isinstance(piece, Proof):
-        return lines_of_proof(piece)
-    if isinstance(piece, Fault):
-        return lines_of_fault(piece)
-    if isinstance(piece, Leaf):
-        return lines_of_leaf(piece)
-    if isinstance(piece, Guard):
-        return lines_of_guard(piece)
-    return [f"{at(piece.place)}: hint: {piece.text}"]
+    return SAID[type(piece)](piece)
 
 
 def last_line(verdict: Verdict) -> str:
@@ -185,12 +161,6 @@ def last_line(verdict: Verdict) -> str:
         return "not verified: " + "; ".join([*reasons, f"and {more} more"] if more else reasons)
     leaves_said = f"{counted(len(verdict.leaves), 'leaf')} valid" if verdict.leaves else "no leaves"
     return f"verified: closed, guarded, {leaves_said}. It rests on {', '.join(verdict.rests_on)}"
-
-
-def lines_of_verdict(verdict: Verdict) -> list[str]:
-    """All lines of a verdict."""
-    pieces: list[Piece] = [verdict.found, *verdict.leaves, *([verdict.guard] if verdict.guard else []), *verdict.hints]
-    return [*(line for piece in pieces for line in lines_of(piece)), last_line(verdict)]
 
 
 # The object that --json prints
@@ -213,9 +183,7 @@ def maker_object(made: Maker) -> dict[str, Any]:
 
 def leaf_object(leaf: Leaf) -> dict[str, Any]:
     """A leaf."""
-    said = leaf.said
-    told = {"leaf": leaf.number, "text": leaf.text, "answer": said.word, "values": said.values, "computed": said.computed}
-    return {**told, "by": said.by, "values_by": said.values_by, "made_by": [maker_object(made) for made in leaf.made_by]}
+    return {"leaf": leaf.number, "text": leaf.text, **leaf.said.as_object(), "made_by": [maker_object(made) for made in leaf.made_by]}
 
 
 def fault_object(fault: Fault) -> dict[str, Any]:
@@ -264,14 +232,6 @@ def source_of(name: str) -> Source:
     return Source(name, read_bytes(name))
 
 
-def put_term(verdict: Verdict, name: str | None) -> str | None:
-    """Puts the term where it is wanted, where there is one; the name of it."""
-    if name is None or not verdict.term:
-        return None
-    put_at(verdict.term, name)
-    return name
-
-
 def options_of(options: argparse.Namespace) -> Options:
     """How the verdict is found. Refused is a TERM that is an input, or has something else than a term in it."""
     program, old = program_of(options.dlk), None
@@ -298,37 +258,63 @@ def not_found(options: argparse.Namespace, found: "NotFound") -> int:
     status, outcome = (REFUTED, "refuted") if found.is_refuted else (OPEN, None)
     said = "a run breaks the model" if found.is_refuted else "no proof is found"
     if options.json:
-        told = {"model": options.file, "proof": options.proof, "verified": False, "outcome": outcome, "reasons": [said, *found.reasons]}
-        print(json.dumps({**told, "status": status}), flush=True)
+        say_without_verdict(options, outcome, [said, *found.reasons], status)
     else:
         say_lines([*found.reasons, f"{outcome or 'not verified'}: {said}"])
     return status
+
+
+def say_without_verdict(options: argparse.Namespace, outcome: str | None, reasons: Sequence[str], status: int) -> None:
+    """Prints the object that tells why there is no verdict."""
+    told = {"model": options.file, "proof": options.proof, "verified": False, "outcome": outcome, "reasons": reasons, "status": status}
+    print(json.dumps(told), flush=True)
+
+
+class Saying:
+    """Says each piece of a verdict as it is found. Where nobody reads any more, but a file is still to be written, the work goes on in silence."""
+
+    def __init__(self, options: argparse.Namespace) -> None:
+        self.is_silent, self.has_files = options.json, options.output is not None or options.page is not None
+        self.unread: BrokenPipeError | None = None
+
+    def __call__(self, piece: Piece) -> None:
+        if self.is_silent:
+            return
+        try:
+            say_lines(lines_of(piece))
+        except BrokenPipeError as fault:
+            if not self.has_files:
+                raise
+            self.is_silent, self.unread = True, fault
+
+    def end(self) -> None:
+        """Tells that nobody reads, once all is written."""
+        if self.unread:
+            raise self.unread
 
 
 def once(options: argparse.Namespace) -> int:
     """One verdict, printed. The exit status."""
     if is_archive(options.file, source_of(options.file).data):
         return on_archive(options)
-    say: Callable[[Piece], None] = (lambda piece: None) if options.json else (lambda piece: say_lines(lines_of(piece)))
     model, settings, proof = source_of(options.file), options_of(options), proof_of(options)
     if not isinstance(proof, Source):
         return not_found(options, proof)
+    say = Saying(options)
     verdict = verdict_on(model, proof, settings, say)
-    put = put_term(verdict, options.output)
+    put = options.output if verdict.term else None
+    if put is not None:
+        put_at(verdict.term, put)
     if options.page is not None:
-        page_written()(verdict, options.page, settings.program)
+        from dlkt.commands.page import written  # it takes a while
+
+        written(verdict, options.page, settings.program)
+    say.end()
     if options.json:
         print(json.dumps(as_object(verdict, put)), flush=True)
     else:
         say_lines([last_line(verdict)])
     return verdict.status
-
-
-def page_written() -> Callable[[Verdict, str, str], None]:
-    """What writes the page of a verdict. It is imported where a page is wanted."""
-    from dlkt.commands.page import written
-
-    return written
 
 
 def on_archive(options: argparse.Namespace) -> int:
@@ -385,8 +371,7 @@ def known(options: argparse.Namespace) -> int:
         why = str(refused)
     print(f"dlkt verify: {one_line(why)}", file=sys.stderr, flush=True)
     if options.json:
-        told = {"model": options.file, "proof": options.proof, "verified": False, "outcome": None, "reasons": [why], "status": NOTHING_KNOWN}
-        print(json.dumps(told), flush=True)
+        say_without_verdict(options, None, [why], NOTHING_KNOWN)
     return NOTHING_KNOWN
 
 
@@ -401,12 +386,11 @@ def add_words(parser: argparse.ArgumentParser) -> None:
     parser.add_argument("--entry", metavar="NAME", help="of an archive, this entry alone")
     parser.add_argument("-o", "--output", metavar="TERM", help="where to put the term")
     parser.add_argument("--page", metavar="OUT.html", help="write a page of the proof, to hand on")
-    parser.add_argument("-j", dest="jobs", type=count, default=os.cpu_count() or 1, metavar="N", help="so many leaves at a time")
+    add_options(parser, "-j")
     parser.add_argument("--all-solvers", action="store_true", help="wait for each solver, and print what it says")
-    parser.add_argument("--seconds", type=seconds, default=20, metavar="N", help="for each leaf and solver (20)")
-    parser.add_argument("--json", action="store_true", help="print one object")
+    add_options(parser, "--seconds", "--json")
     parser.add_argument("--watch", action="store_true", help="again at each change of FILE or PROOF, until control-C")
-    parser.add_argument("--dlk", metavar="PROGRAM", help="the program (that of this checkout)")
+    add_options(parser, "--dlk")
 
 
 def run(options: argparse.Namespace) -> int:

@@ -1,6 +1,7 @@
 {
   document.body.classList.add("js");
   document.getElementById("signs").onchange = event => document.body.classList.toggle("signs", event.target.checked);
+  document.querySelectorAll(".text").forEach(one => { one.innerHTML = setFormula(one.textContent); });
   // The sequents of goals and of leaves are set as soon as they can be seen.
   const set = one => { if (!one.innerHTML) one.innerHTML = setSequent(Number(one.dataset.sequent)); };
   document.querySelectorAll("[data-sequent]").forEach(one => {
