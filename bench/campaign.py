@@ -12,7 +12,7 @@ from pathlib import Path
 from typing import Any, Callable, Iterator, Sequence
 
 from dlkt import calculus
-from dlkt.semantics import deciding, syntax
+from dlkt.semantics import deciding, solver, syntax
 from dlkt.semantics.deciding import Verdict
 from dlkt.semantics.systems import Poles
 from dlkt.trees import Tree, text
@@ -45,6 +45,7 @@ class Campaign:
     def batch(self, part: str, number: int, count: int) -> Iterator[Kept]:
         """The things of a batch. The same seed, part, number and count make the same."""
         syntax.forget()
+        solver.forget()
         rng = random.Random(f"{self.seed} {part} {number}")
         parts: dict[str, Callable[[random.Random, int, int], Iterator[Kept]]] = {
             "axioms": self.axioms, "border": self.border, "congruence": self.congruence, "rules": self.rules, "proofs": self.proofs,
