@@ -72,7 +72,7 @@ def by_solution(meaning: Formula, answer: solver.Answer, milliseconds: int, samp
         names = sorted(name for name in meaning.names if not name.startswith("?"))
         for _ in range(SAMPLES):
             tried: dict[str, Fraction | bool] = {name: sampling.choice(SAMPLED) for name in names}
-            if solver.is_refuted_by(meaning, tried, max(200, milliseconds // 5)):
+            if solver.is_refuted_by(meaning, tried, max(50, milliseconds // 5)):
                 return Decided(Verdict.INVALID, tried)
     return Decided(Verdict.DOUBT if is_doubted else Verdict.UNKNOWN, values)
 

@@ -243,7 +243,7 @@ class Paths:
             have = [step.tree for step in path.taken if step.kind not in (Kind.ROUND, Kind.ASSUMED) and step.tree.word != "forall"]
             if have != [step for step in steps if step.word != "loop"]:
                 continue
-            for more in (pins, []):
+            for more in (tuple(pins), ()):
                 wanted = solver.both([*path.conditions, *more])
                 no_longer_poisoned(wanted)
                 answer = solver.timely(wanted, self.milliseconds(PATH))
