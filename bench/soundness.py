@@ -48,7 +48,7 @@ from twin import Mistake  # noqa: E402
 
 SHARES = {"axioms": 460, "border": 330, "congruence": 40, "rules": 120, "proofs": 15, "library": 5, "changed": 5, "planted": 25}  # of a thousand
 BATCH = {"axioms": 40, "border": 40, "congruence": 20, "rules": 10, "proofs": 5, "library": 5, "changed": 2, "planted": 2}
-SILENCE = 40  # seconds after which a process is taken for stuck
+SILENCE = 60  # seconds after which a process is taken for stuck, and four times as many at most on a machine that isn't free
 MEMORY_BATCHES = 30  # batches after which a process is started anew
 
 # Of 1,000 decided instances of a part, how many invalid ones each reason of the guard must have at least.
@@ -126,9 +126,9 @@ class Worker:
         os.close(writing)
         self.out, self.rest, self.status = reading, b"", 0
 
-    def lines(self, silence: float) -> Iterator[Any]:
+    def lines(self, longest: float) -> Iterator[Any]:
         """What it writes, until it ends or is silent for so long."""
-        while select.select([self.out], [], [], silence)[0]:
+        while select.select([self.out], [], [], longest)[0]:
             data = os.read(self.out, 1 << 16)
             if not data:
                 break
@@ -145,12 +145,17 @@ class Worker:
         os.close(self.out)
 
 
+def silence(settings: Settings, end: float) -> float:
+    """How many seconds a process may be silent."""
+    return min(SILENCE * min(4.0, max(1.0, settings.patience / 10)), max(1.0, end - time.monotonic()))
+
+
 def results(work: list[Work], settings: Settings, end: float) -> Iterator[Kept]:
     """What comes of all batches, in time."""
     while work and time.monotonic() < end:
         worker, some = Worker(work[:MEMORY_BATCHES], settings), list(work[:MEMORY_BATCHES])
         try:
-            for kept in worker.lines(SILENCE * settings.patience):
+            for kept in worker.lines(silence(settings, end)):
                 if kept is None:
                     some.pop(0)
                 else:

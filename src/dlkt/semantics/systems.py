@@ -60,7 +60,8 @@ class Solution(NamedTuple):
 def ends(pole: Pole, time: Term) -> Formula:
     """That a pole ends each run before this time."""
     moment = solver.fresh("moment")
-    is_hit = solver.both([solver.compare("ge", moment, solver.ZERO), solver.compare("le", moment, time), compared("eq", polynomials.at(pole.divisor, moment), NOUGHT)])
+    between = [solver.compare("ge", moment, solver.ZERO), solver.compare("le", moment, time)]
+    is_hit = solver.both([*between, compared("eq", polynomials.at(pole.divisor, moment), NOUGHT)])
     moves = solver.either(compared("ne", value, NOUGHT) for value in pole.divisor[1:])
     later = solver.compare("gt", time, solver.ZERO)
     if pole.top is None:
