@@ -25,7 +25,7 @@ from twin import Mistake, Twin
 Kept = dict[str, Any]
 PARTS = ("axioms", "border", "congruence", "rules", "proofs", "library", "changed", "planted")
 AXIOMS = tuple(calculus.AXIOMS)
-MILLISECONDS, PREMISE_MILLISECONDS = 200, 200
+MILLISECONDS, PREMISE_MILLISECONDS = 60, 100
 DRAWN = 6
 READINGS = ("w'=w'+1", "w'=1", "x'=1,y'=-1")  # of a constant of differential equations that is left
 RULE_NAMES = tuple(calculus.PREMISES)

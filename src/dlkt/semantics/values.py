@@ -7,7 +7,7 @@ What is kept: that the conditions of a value's cases exclude each other and that
 from __future__ import annotations
 
 from fractions import Fraction
-from typing import Callable, Iterator, Mapping, NamedTuple, Protocol
+from typing import Callable, Iterator, Mapping, NamedTuple, Protocol, Sequence
 
 from dlkt.semantics import solver
 from dlkt.semantics.solver import Formula, Term
@@ -56,9 +56,8 @@ class Value:
         for one in self.cases:
             for two in other.cases:
                 new = [part for part in two.conditions if part not in one.conditions]
-                conditions = (*one.conditions, *new)
-                if not contradict(conditions):
-                    yield conditions, one, two
+                if not new or not contradict(one.conditions, new):
+                    yield (*one.conditions, *new), one, two
 
     def plus(self, other: Value) -> Value:
         """The sum."""
@@ -121,9 +120,9 @@ class Value:
         return not any(case.numerator.coefficients for case in self.cases)
 
 
-def contradict(conditions: tuple[Formula, ...]) -> bool:
-    """Whether a condition stands beside its negation."""
-    return solver.both(conditions) is solver.FALSE
+def contradict(some: Sequence[Formula], others: Sequence[Formula]) -> bool:
+    """Whether one of some conditions is the negation of one of others."""
+    return any(solver.no(part) in some for part in others)
 
 
 def by_number(conditions: tuple[Formula, ...], one: Case, two: Case, divisor: Fraction | int) -> Case:
