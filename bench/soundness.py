@@ -46,7 +46,7 @@ sys.setrecursionlimit(60_000)
 from campaign import PARTS, Campaign, Kept  # noqa: E402  (behind the path)
 from twin import Mistake  # noqa: E402
 
-SHARES = {"axioms": 460, "border": 330, "congruence": 40, "rules": 120, "proofs": 15, "library": 5, "changed": 5, "planted": 25}  # of a thousand
+SHARES = {"axioms": 520, "border": 270, "congruence": 40, "rules": 120, "proofs": 15, "library": 5, "changed": 5, "planted": 25}  # of a thousand
 BATCH = {"axioms": 40, "border": 40, "congruence": 20, "rules": 10, "proofs": 5, "library": 5, "changed": 2, "planted": 2}
 SILENCE = 60  # seconds after which a process is taken for stuck, and four times as many at most on a machine that isn't free
 MEMORY_BATCHES = 30  # batches after which a process is started anew
