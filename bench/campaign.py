@@ -12,7 +12,7 @@ from pathlib import Path
 from typing import Any, Callable, Iterator, Sequence
 
 from dlkt import calculus
-from dlkt.semantics import deciding, syntax
+from dlkt.semantics import deciding, solver, syntax
 from dlkt.semantics.deciding import Verdict
 from dlkt.semantics.systems import Poles
 from dlkt.trees import Tree, text
@@ -25,7 +25,7 @@ from twin import Mistake, Twin
 Kept = dict[str, Any]
 PARTS = ("axioms", "border", "congruence", "rules", "proofs", "library", "changed", "planted")
 AXIOMS = tuple(calculus.AXIOMS)
-MILLISECONDS, PREMISE_MILLISECONDS = 800, 500
+MILLISECONDS, PREMISE_MILLISECONDS = 60, 100
 DRAWN = 6
 READINGS = ("w'=w'+1", "w'=1", "x'=1,y'=-1")  # of a constant of differential equations that is left
 RULE_NAMES = tuple(calculus.PREMISES)
@@ -40,11 +40,13 @@ class Campaign:
 
     def __init__(self, folder: Path, seed: int, patience: float = 1.0) -> None:
         self.program, self.seed = Program(folder), seed
-        self.milliseconds, self.for_premises = int(MILLISECONDS * patience), int(PREMISE_MILLISECONDS * patience)
+        self.valid: dict[Tree, bool] = {}  # whether premises are known to be valid
+        solver.Pace.factor = patience
 
     def batch(self, part: str, number: int, count: int) -> Iterator[Kept]:
         """The things of a batch. The same seed, part, number and count make the same."""
         syntax.forget()
+        solver.forget()
         rng = random.Random(f"{self.seed} {part} {number}")
         parts: dict[str, Callable[[random.Random, int, int], Iterator[Kept]]] = {
             "axioms": self.axioms, "border": self.border, "congruence": self.congruence, "rules": self.rules, "proofs": self.proofs,
@@ -79,12 +81,12 @@ class Campaign:
     def verdict(self, tree: Tree, rng: random.Random, guard: str) -> Kept:
         """What the semantics says of a conclusion."""
         try:
-            return told(deciding.decided(tree, self.milliseconds, sampling=rng))
+            return told(deciding.decided(tree, MILLISECONDS, sampling=rng))
         except syntax.Unsupported as why:
             if str(why) != "a pole":
                 return {"verdict": "unsupported", "why": str(why)}
         try:
-            both = [deciding.decided(tree, self.milliseconds, how, rng).verdict for how in (Poles.PASSED, Poles.STOPPED)]
+            both = [deciding.decided(tree, MILLISECONDS, how, rng).verdict for how in (Poles.PASSED, Poles.STOPPED)]
         except syntax.Unsupported as why:
             return {"verdict": "unsupported", "why": str(why)}
         if both == [Verdict.VALID, Verdict.VALID]:
@@ -95,10 +97,13 @@ class Campaign:
 
     def premise(self, trees: Sequence[Tree]) -> bool:
         """Whether premises are known to be valid."""
-        try:
-            return all(deciding.decided(tree, self.for_premises).verdict == Verdict.VALID for tree in trees)
-        except syntax.Unsupported:
-            return False
+        for tree in trees:
+            if tree not in self.valid:
+                try:
+                    self.valid[tree] = deciding.decided(tree, PREMISE_MILLISECONDS).verdict == Verdict.VALID
+                except syntax.Unsupported:
+                    self.valid[tree] = False
+        return all(self.valid[tree] for tree in trees)
 
     def judged(self, instances: Sequence[Instance], rng: random.Random) -> Iterator[Kept]:
         """What comes of instances: those that the twin of the guard lets through must all be let through by the guard, the first of the others

@@ -6,6 +6,7 @@ merged at once is accepted where the program's own instances are, letter by lett
 
 from __future__ import annotations
 
+import functools
 import re
 import subprocess
 from pathlib import Path
@@ -121,11 +122,17 @@ def symbols(*trees: Tree) -> list[Symbol]:
     return sorted(found)
 
 
+@functools.lru_cache(1 << 10)
+def pairs_of(pairs: str) -> tuple[tuple[str, Tree], ...]:
+    """The pairs that a text has, read once."""
+    return tuple((symbol, tree) for symbol, tree in reader.pairs(pairs, TREES))
+
+
 class Replacing:
     """Replaces symbols in trees, without a look at what is captured."""
 
     def __init__(self, pairs: str) -> None:
-        self.by = {symbol: tree for symbol, tree in reader.pairs(pairs, TREES)}
+        self.by = dict(pairs_of(pairs))
         self.known: dict[Tree, Tree] = {}
 
     def tree(self, tree: Tree) -> Tree:
@@ -305,7 +312,7 @@ def read_in(tree: Tree) -> set[str]:
 def may_capture(row: Sequence[Tree], pairs: str) -> bool:
     """Whether a substitution may not be admissible, by a rough look: a replacement with arguments reads what is bound somewhere, or binds what an
     argument may read; or one with a taboo reads that."""
-    replaced = reader.pairs(pairs, TREES)
+    replaced = pairs_of(pairs)
     bound = {name for tree in row for name in bound_in(tree)}
     bound |= {name for symbol, tree in replaced if symbol[-1] in ";}" for name in bound_in(tree)}
     read = {name for tree in row for name in read_in(tree)} | {name for symbol, tree in replaced for name in read_in(tree) if not bound_in(tree)}

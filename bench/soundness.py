@@ -1,6 +1,7 @@
 """Tries the calculus and the guard against a second semantics: random instances and proofs that `dlk` accepts, judged by z3.
 
     python3 bench/soundness.py [--count N] [--seconds S] [--seed N] [--parts NAMES] [--patience F] [--names] [--out FILE]
+    python3 bench/soundness.py --join FILE ..
 
 Made are, by the seed, N things in all (1,500), in these parts:
 
@@ -18,8 +19,9 @@ is 1 where a conclusion is invalid though the proof is guarded and its leaves an
 (bench/twin.py) says something else than the guard; and where the campaign has no teeth: too few invalid instances for a reason of the guard, too few
 planted mistakes caught, or too few of the wrong guards.
 
---seconds ends it earlier: what it must catch goes by what was tried. --out writes a line of JSON for each thing that isn't plainly valid. It needs
-z3's Python module. A process beside it does the work, and is started anew where a question doesn't end.
+--seconds ends it earlier: what it must catch goes by what was tried. --out writes a line of JSON for each thing that isn't plainly valid, and last
+all that was counted: so a long campaign can be run in pieces of other seeds, whose files --join puts together to one table. It needs z3's Python
+module. A process beside it does the work, and is started anew where a question doesn't end.
 """
 
 from __future__ import annotations
@@ -44,9 +46,9 @@ sys.setrecursionlimit(60_000)
 from campaign import PARTS, Campaign, Kept  # noqa: E402  (behind the path)
 from twin import Mistake  # noqa: E402
 
-SHARES = {"axioms": 34, "border": 30, "congruence": 5, "rules": 12, "proofs": 6, "library": 5, "changed": 2, "planted": 6}
+SHARES = {"axioms": 520, "border": 270, "congruence": 40, "rules": 120, "proofs": 15, "library": 5, "changed": 5, "planted": 25}  # of a thousand
 BATCH = {"axioms": 40, "border": 40, "congruence": 20, "rules": 10, "proofs": 5, "library": 5, "changed": 2, "planted": 2}
-SILENCE = 40  # seconds after which a process is taken for stuck
+SILENCE = 60  # seconds after which a process is taken for stuck, and four times as many at most on a machine that isn't free
 MEMORY_BATCHES = 30  # batches after which a process is started anew
 
 # Of 1,000 decided instances of a part, how many invalid ones each reason of the guard must have at least.
@@ -124,9 +126,9 @@ class Worker:
         os.close(writing)
         self.out, self.rest, self.status = reading, b"", 0
 
-    def lines(self, silence: float) -> Iterator[Any]:
+    def lines(self, longest: float) -> Iterator[Any]:
         """What it writes, until it ends or is silent for so long."""
-        while select.select([self.out], [], [], silence)[0]:
+        while select.select([self.out], [], [], longest)[0]:
             data = os.read(self.out, 1 << 16)
             if not data:
                 break
@@ -143,12 +145,17 @@ class Worker:
         os.close(self.out)
 
 
+def silence(settings: Settings, end: float) -> float:
+    """How many seconds a process may be silent."""
+    return min(SILENCE * min(4.0, max(1.0, settings.patience / 10)), max(1.0, end - time.monotonic()))
+
+
 def results(work: list[Work], settings: Settings, end: float) -> Iterator[Kept]:
     """What comes of all batches, in time."""
     while work and time.monotonic() < end:
         worker, some = Worker(work[:MEMORY_BATCHES], settings), list(work[:MEMORY_BATCHES])
         try:
-            for kept in worker.lines(SILENCE * settings.patience):
+            for kept in worker.lines(silence(settings, end)):
                 if kept is None:
                     some.pop(0)
                 else:
@@ -170,6 +177,7 @@ def results(work: list[Work], settings: Settings, end: float) -> Iterator[Kept]:
 # What came of it
 
 DECIDED = ("valid", "invalid")
+COUNTED_BY_TWO = ("counts", "reasons", "by_name")
 COLUMNS = ("tried", "decided", "valid", "invalid, flagged", "invalid and guarded", "undecided", "not in its part", "premise")
 
 
@@ -215,6 +223,19 @@ class Tally:
             self.counts[kept["part"], "invalid, flagged"] += 1
             self.reasons[kept["part"], kept["guard"]] += 1
             self.caught.update(kept.get("caught", []))
+
+    def told(self) -> Kept:
+        """All that was counted, for a file."""
+        pairs = {name: [[*key, number] for key, number in getattr(self, name).items()] for name in COUNTED_BY_TWO}
+        return {"tally": {**pairs, "caught": dict(self.caught), "refused": dict(self.refused)}}
+
+    def join(self, told: Kept) -> None:
+        """Adds what another campaign counted."""
+        for name in COUNTED_BY_TWO:
+            for one, other, number in told["tally"][name]:
+                getattr(self, name)[one, other] += number
+        self.caught.update(told["tally"]["caught"])
+        self.refused.update(told["tally"]["refused"])
 
     def table(self) -> list[str]:
         """The table of the parts."""
@@ -268,9 +289,10 @@ def options_of(words: list[str]) -> argparse.Namespace:
     parser.add_argument("--count", type=int, default=1500)
     parser.add_argument("--seconds", type=float, default=float("inf"))
     parser.add_argument("--seed", type=int, default=1)
-    parser.add_argument("--patience", type=float, default=1.0, help="the times of questions are longer by this factor, on a machine that isn't free")
+    parser.add_argument("--patience", type=float, default=10.0, help="the clock of questions may take longer than on a free machine by this factor")
     parser.add_argument("--parts", default=",".join(PARTS))
     parser.add_argument("--out", type=Path)
+    parser.add_argument("--join", type=Path, nargs="+", metavar="FILE")
     parser.add_argument("--names", action="store_true", help="also a line for each axiom and rule")
     options = parser.parse_args(words)
     unknown = set(options.parts.split(",")) - set(PARTS)
@@ -284,9 +306,24 @@ def ended(*_: object) -> None:
     raise KeyboardInterrupt
 
 
+def joined(files: list[Path]) -> bool:
+    """Prints what came of campaigns, by the files that they wrote, and gives whether it is as it should be."""
+    tally, seconds = Tally(), 0
+    for file in files:
+        for told in map(json.loads, file.read_text().splitlines()):
+            if "tally" in told:
+                tally.join(told)
+                seconds += told["seconds"]
+            elif told.get("disagrees") or (told["verdict"] == "invalid" and told["guard"] == "guarded"):
+                tally.wrong.append(told)
+    return tally.report(seconds)
+
+
 def main(words: list[str]) -> int:
     """Runs a campaign."""
     options = options_of(words)
+    if options.join:
+        return 0 if joined(options.join) else 1
     signal.signal(signal.SIGTERM, ended)
     begin, tally = time.monotonic(), Tally()
     out = options.out.open("w") if options.out else None
@@ -300,7 +337,10 @@ def main(words: list[str]) -> int:
                 print(json.dumps(kept), file=out, flush=True)
     except KeyboardInterrupt:
         print("interrupted")
-    is_good = tally.report(time.monotonic() - begin)
+    seconds = time.monotonic() - begin
+    if out:
+        print(json.dumps({**tally.told(), "seed": options.seed, "seconds": round(seconds)}), file=out, flush=True)
+    is_good = tally.report(seconds)
     if options.names:
         for name in sorted({name for name, _ in tally.by_name}):
             print(f"{name:<14}{tally.by_name[name, 'tried']:>8}{tally.by_name[name, 'decided']:>8}")

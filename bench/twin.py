@@ -8,9 +8,8 @@ from __future__ import annotations
 
 from enum import Enum
 
-from dlkt import reader
 from dlkt.trees import Tree, evolves
-from rows import TREES, Instance
+from rows import TREES, Instance, pairs_of
 
 COMPARISONS = ("eq", "ne", "ge", "gt", "le", "lt")
 
@@ -269,7 +268,7 @@ def replacements(instance: Instance) -> list[Tree]:
     found = []
     for line in instance.lines:
         if line.startswith("subst "):
-            found += [tree for symbol, tree in reader.pairs(line.split(" ", 2)[2], TREES) if symbol.endswith("{_}")]
+            found += [tree for symbol, tree in pairs_of(line.split(" ", 2)[2]) if symbol.endswith("{_}")]
     return found
 
 

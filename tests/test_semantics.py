@@ -96,12 +96,12 @@ class Pitfalls(unittest.TestCase):
 
     def test_a_false_solution_is_no_counterexample(self):
         """An answer in time that is wrong comes to `doubt`: with its numbers put in the formula is true."""
-        whole = solver.timely
+        whole, three = solver.timely, solver.compare("eq", solver.real("x"), solver.number(3))
         asked = []
 
         def wrong_at_first(wanted, milliseconds):
             asked.append(wanted)
-            return whole(solver.real("x") == solver.number(3), milliseconds) if len(asked) == 1 else whole(wanted, milliseconds)
+            return whole(three, milliseconds) if len(asked) == 1 else whole(wanted, milliseconds)
 
         with mock.patch.object(solver, "timely", wrong_at_first):
             self.assertEqual(deciding.decided(formula("x*x>=0")).verdict, Verdict.DOUBT)
@@ -113,8 +113,8 @@ class Pitfalls(unittest.TestCase):
         model = formula("x>=0 -> [x:=x+1;]x>=1")
         search = paths.Paths(paths.Clock(5))
         path, fails = next(iter(search.falsify(model, paths.Path(State()))))
-        wrong = solver.ask(solver.real("x") == solver.number(3), 1000).solution
-        asked = solver.real("x") == solver.number(3)
+        asked = solver.compare("eq", solver.real("x"), solver.number(3))
+        wrong = solver.ask(asked, 1000).solution
         self.assertIsNone(refuting.run_of(paths.Found(path, fails, asked, wrong), model, search.clock))
 
     def test_what_rounding_leaves_is_no_failure(self):
@@ -202,7 +202,7 @@ class Computes(unittest.TestCase):
         coefficients = polynomials.bernstein(values, time_)
         holds = solver.both(exactly_least(value) for value in coefficients)
         moment = solver.real("s")
-        below = solver.both([time_ >= solver.ZERO, moment >= solver.ZERO, moment <= time_, holds])
+        below = solver.both([*(solver.compare("ge", one, solver.ZERO) for one in (time_, moment)), solver.compare("le", moment, time_), holds])
         fails = solver.no(exactly_least(polynomials.at(values, moment)))
         self.assertEqual(solver.ask(solver.both([below, fails]), 5000).said, solver.Said.IMPOSSIBLE)
 

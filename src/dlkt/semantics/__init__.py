@@ -4,6 +4,7 @@ It says what formulas mean by real numbers, from the definitions of the logic an
 with the calculus of `dlk`: no axiom, no rule, no substitution. It claims nothing: it looks for mistakes in models (`dlkt refute`), and in the
 calculus (`bench/soundness.py`).
 
+    expressions  terms and formulas of real numbers in a normal form
     solver       z3, by a few typed functions
     syntax       differentials, constants and variables of trees
     values       a value as a list of cases, so that no division gets to z3

@@ -281,7 +281,7 @@ def step_done(step: Taken, numbers: Numbers, chosen: Mapping[str, Fraction]) -> 
     if step.kind == Kind.SET:
         numbers[tree.detail] = value(tree.kids[0], numbers)
         return Step(Kind.SET, text(tree), {tree.detail: Amount.of(numbers[tree.detail])})
-    number = chosen.get(step.constant.decl().name() if step.constant is not None else "", Fraction(0))
+    number = chosen.get(solver.name_of(step.constant) if step.constant is not None else "", Fraction(0))
     if step.kind == Kind.CHOSEN:
         numbers[tree.detail] = number
         shown = text(tree) if tree.word == "any" else f"\\forall {tree.detail}"

@@ -12,14 +12,14 @@ from typing import Callable, TypeAlias
 
 from dlkt.semantics import polynomials, solver
 from dlkt.semantics.polynomials import NoPolynomial
-from dlkt.semantics.solver import Expression, Said
+from dlkt.semantics.solver import Formula, Said, Term
 from dlkt.semantics.syntax import Unsupported, differential, exponent, formula_differential, mentioned
 from dlkt.semantics.systems import Poles, Solution, solved
 from dlkt.semantics.values import TESTS, State, Value, compared
 from dlkt.trees import Tree
 from fractions import Fraction
 
-Ending: TypeAlias = Callable[[State], Expression]
+Ending: TypeAlias = Callable[[State], Formula]
 MOST_ROUNDS = 2  # after which a loop is looked at whether it reaches more
 MILLISECONDS = 1000
 
@@ -55,7 +55,7 @@ class Meaning:
 
     # Formulas
 
-    def formula(self, formula: Tree, state: State, from_above: bool = True) -> Expression:
+    def formula(self, formula: Tree, state: State, from_above: bool = True) -> Formula:
         """What a formula says of a state. Where it isn't exact, it is a bound from above, or from below."""
         kids = formula.kids
         if formula.word in TESTS:
@@ -83,13 +83,13 @@ class Meaning:
             return solver.truth(f"{formula.detail}()")
         raise Unsupported(f"{formula.word} in a formula")
 
-    def implication(self, premise: Tree, conclusion: Tree, state: State, from_above: bool) -> Expression:
+    def implication(self, premise: Tree, conclusion: Tree, state: State, from_above: bool) -> Formula:
         """That one formula implies another."""
         return solver.implied(self.formula(premise, state, not from_above), self.formula(conclusion, state, from_above))
 
     # Systems
 
-    def inside(self, domain: Tree, solution: Solution, time: Expression, from_above: bool) -> Expression:
+    def inside(self, domain: Tree, solution: Solution, time: Term, from_above: bool) -> Formula:
         """That the domain holds from the start to this time."""
         found, rest = [], []
         for part in conjuncts(domain):
@@ -103,7 +103,7 @@ class Meaning:
             moment = solver.fresh("moment")
             there = solution.at(moment)
             holds = solver.both(self.formula(part, there, from_above) for part in rest)
-            found.append(solver.quantified(True, moment, solver.either([moment < solver.ZERO, moment > time, holds])))
+            found.append(solver.quantified(True, moment, solver.either([solver.compare("lt", moment, solver.ZERO), solver.compare("gt", moment, time), holds])))
         return solver.both(found)
 
     def degree(self, part: Tree, solution: Solution) -> int | None:
@@ -130,7 +130,7 @@ class Running:
         self.meaning, self.is_box, self.from_above = meaning, is_box, from_above
         self.all = solver.both if is_box else solver.either
 
-    def program(self, program: Tree, state: State, ending: Ending) -> Expression:
+    def program(self, program: Tree, state: State, ending: Ending) -> Formula:
         """What holds of the ends of a program's runs."""
         kids = program.kids
         if program.word == "assign":
@@ -152,7 +152,7 @@ class Running:
             return self.system(program, state, ending)
         raise Unsupported(f"{program.word} in a program")
 
-    def loop(self, body: Tree, state: State, ending: Ending) -> Expression:
+    def loop(self, body: Tree, state: State, ending: Ending) -> Formula:
         """What holds after any number of rounds."""
         known = self.meaning.enough
         if body not in known:
@@ -165,14 +165,14 @@ class Running:
                 return solver.TRUE if self.from_above else solver.FALSE
         return self.again(body, state, ending, rounds)
 
-    def again(self, body: Tree, state: State, ending: Ending, rounds: int) -> Expression:
+    def again(self, body: Tree, state: State, ending: Ending, rounds: int) -> Formula:
         """What holds after so many rounds at most."""
         here = ending(state)
         if rounds == 0:
             return here
         return self.all([here, self.program(body, state, lambda end: self.again(body, end, ending, rounds - 1))])
 
-    def system(self, system: Tree, state: State, ending: Ending) -> Expression:
+    def system(self, system: Tree, state: State, ending: Ending) -> Formula:
         """What holds of the ends of a system's runs."""
         solution = solved(self.meaning, system, state, self.meaning.poles)
         if solution is None:
@@ -182,8 +182,8 @@ class Running:
         inside = solver.both([inside, solution.allowed(time)])
         end = ending(solution.at(time))
         if self.is_box:
-            return solver.quantified(True, time, solver.either([time < solver.ZERO, solver.no(inside), end]))
-        return solver.quantified(False, time, solver.both([time >= solver.ZERO, inside, end]))
+            return solver.quantified(True, time, solver.either([solver.compare("lt", time, solver.ZERO), solver.no(inside), end]))
+        return solver.quantified(False, time, solver.both([solver.compare("ge", time, solver.ZERO), inside, end]))
 
 
 def enough_rounds(body: Tree) -> int | None:

@@ -15,7 +15,7 @@ from typing import Callable, Iterator, NamedTuple, Sequence
 from dlkt.semantics import solver
 from dlkt.semantics.floats import Floats, holds, value
 from dlkt.semantics.meaning import Meaning
-from dlkt.semantics.paths import Clock, first_names
+from dlkt.semantics.paths import Clock, first_names, pinned
 from dlkt.semantics.runs import Accuracy, Amount, Kind, Run, Step
 from dlkt.semantics.simulation import Choices, Did, Simulation
 from dlkt.semantics.solver import Said
@@ -79,9 +79,9 @@ def starts(shape: Shape, names: Sequence[str], rng: random.Random, clock: Clock)
         wanted = assumed
         for name in rng.sample(list(names), len(names)):
             for _ in range(2):
-                pinned = solver.both([wanted, solver.real(name) == solver.number(some_value(rng, number < SIMPLE_STARTS))])
-                if solver.timely(pinned, PINNED).said == Said.SOLVED:
-                    wanted = pinned
+                here = solver.both([wanted, pinned(name, some_value(rng, number < SIMPLE_STARTS))])
+                if solver.timely(here, PINNED).said == Said.SOLVED:
+                    wanted = here
                     break
         answer = solver.timely(wanted, WHOLE)
         if answer.said != Said.SOLVED:

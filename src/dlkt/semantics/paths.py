@@ -19,7 +19,7 @@ from dlkt.semantics import polynomials, solver
 from dlkt.semantics.meaning import Meaning
 from dlkt.semantics.polynomials import NoPolynomial
 from dlkt.semantics.runs import Kind
-from dlkt.semantics.solver import Expression, Said
+from dlkt.semantics.solver import Formula, Said, Term
 from dlkt.semantics.syntax import Unsupported, equations, is_slope, reads, slope
 from dlkt.semantics.systems import Solution, no_longer_poisoned, solved
 from dlkt.semantics.values import NOUGHT, State, Value, compared
@@ -55,7 +55,7 @@ class Taken(NamedTuple):
 
     kind: Kind
     tree: Tree
-    constant: Expression | None = None
+    constant: Term | None = None
     round: int = 0
     state: State | None = None
 
@@ -64,12 +64,12 @@ class Path(NamedTuple):
     """A path up to a place: the state there, the conditions so far, the steps, how many rounds, and the turns by which it is known again."""
 
     state: State
-    conditions: tuple[Expression, ...] = ()
+    conditions: tuple[Formula, ...] = ()
     taken: tuple[Taken, ...] = ()
     rounds: int = 0
     turns: tuple[int, ...] = ()
 
-    def on(self, step: Taken, state: State | None = None, *conditions: Expression) -> Path:
+    def on(self, step: Taken, state: State | None = None, *conditions: Formula) -> Path:
         """The path behind a step."""
         state = state or self.state
         return self._replace(state=state, conditions=(*self.conditions, *conditions), taken=(*self.taken, step._replace(state=state)))
@@ -84,7 +84,7 @@ class Found(NamedTuple):
 
     path: Path
     fails: Tree
-    asked: Expression
+    asked: Formula
     solution: solver.Solution | None
 
 
@@ -110,7 +110,7 @@ class Paths:
             yield path.on(Taken(Kind.CHOSEN, program, constant), path.state.put({program.detail: Value.of(constant)}))
         elif program.word == "test":
             condition = self.meaning.formula(kids[0], path.state, False)
-            if not solver.is_false(condition):
+            if condition is not solver.FALSE:
                 yield path.on(Taken(Kind.TEST, program), None, condition)
         elif program.word == "choice":
             for turn, kid in enumerate(kids):
@@ -158,10 +158,10 @@ class Paths:
         if solution is None:
             return path.on(Taken(Kind.FLOW, system, duration), None, solver.FALSE)
         inside = inside_enough(self.meaning, system.kids[-1], solution, duration)
-        conditions = duration >= solver.ZERO, inside, solution.allowed(duration)
+        conditions = solver.compare("ge", duration, solver.ZERO), inside, solution.allowed(duration)
         return path.on(Taken(Kind.FLOW, system, duration), solution.at(duration), *conditions)
 
-    def at_once(self, system: Tree, path: Path, duration: Expression) -> Path:
+    def at_once(self, system: Tree, path: Path, duration: Term) -> Path:
         """The path through a system that isn't solved: the run of length 0."""
         self.is_partial = True
         rights = equations(system)
@@ -169,7 +169,7 @@ class Paths:
             raise Unsupported("a right side that reads a slope of its system")
         end = path.state.put({slope(name): self.meaning.term(right, path.state) for name, right in rights.items()})
         here = self.meaning.formula(system.kids[-1], end, False)
-        return path.on(Taken(Kind.FLOW, system, duration), end, here, duration == solver.ZERO)
+        return path.on(Taken(Kind.FLOW, system, duration), end, here, solver.compare("eq", duration, solver.ZERO))
 
     # Formulas that fail
 
@@ -205,9 +205,9 @@ class Paths:
 
     def solution(self, path: Path, fails: Tree, formula: Tree) -> Found | None:
         """The path with a solution, where z3 finds one in time."""
-        wanted = solver.simplified(solver.both(path.conditions))
+        wanted = solver.both(path.conditions)
         no_longer_poisoned(wanted)
-        if solver.is_true(wanted):
+        if wanted is solver.TRUE:
             return Found(path, fails, wanted, None)
         self.asked += 1
         answer = solver.timely(wanted, self.milliseconds(PATH))
@@ -224,12 +224,12 @@ class Paths:
         self.clock.check()
         return max(1, min(most, int(self.clock.left() * 1000)))
 
-    def with_pins(self, wanted: Expression, names: Sequence[str]) -> solver.Solution | None:
+    def with_pins(self, wanted: Formula, names: Sequence[str]) -> solver.Solution | None:
         """A solution of a hard question with some first values set at random."""
         rng = random.Random(self.unknown)
         for _ in range(ATTEMPTS if names else 0):
             some = rng.sample(names, max(1, int(len(names) * rng.choice([0.4, 0.6, 0.8]))))
-            pins = [solver.real(name) == solver.number(rng.choice(PINS)) for name in some]
+            pins = [pinned(name, rng.choice(PINS)) for name in some]
             answer = solver.timely(solver.both([wanted, *pins]), self.milliseconds(PINNED))
             if answer.solution and (solver.has_quantifier(wanted) or answer.solution.holds(wanted)):
                 return answer.solution
@@ -238,21 +238,26 @@ class Paths:
     def following(self, formula: Tree, steps: Sequence[Tree], first: Mapping[str, float]) -> Found | None:
         """The path that takes the steps of a run by numbers, asked exactly: from its first values, and from any."""
         self.rounds = sum(1 for step in steps if step.word == "loop")
-        pins = [solver.real(name) == solver.number(Fraction(value).limit_denominator(10**6)) for name, value in first.items()]
+        pins = [pinned(name, Fraction(value).limit_denominator(10**6)) for name, value in first.items()]
         for path, fails in self.falsify(formula, Path(State())):
             have = [step.tree for step in path.taken if step.kind not in (Kind.ROUND, Kind.ASSUMED) and step.tree.word != "forall"]
             if have != [step for step in steps if step.word != "loop"]:
                 continue
-            for more in (pins, []):
-                wanted = solver.simplified(solver.both([*path.conditions, *more]))
+            for more in (tuple(pins), ()):
+                wanted = solver.both([*path.conditions, *more])
                 no_longer_poisoned(wanted)
                 answer = solver.timely(wanted, self.milliseconds(PATH))
-                if answer.said == Said.SOLVED and (answer.solution or solver.is_true(wanted)):
-                    return Found(path, fails, solver.simplified(solver.both(path.conditions)), answer.solution)
+                if answer.said == Said.SOLVED and (answer.solution or wanted is solver.TRUE):
+                    return Found(path, fails, solver.both(path.conditions), answer.solution)
         return None
 
 
-def inside_enough(meaning: Meaning, domain: Tree, solution: Solution, duration: Expression) -> Expression:
+def pinned(name: str, value: Fraction) -> Formula:
+    """That a constant has a value."""
+    return solver.compare("eq", solver.real(name), solver.number(value))
+
+
+def inside_enough(meaning: Meaning, domain: Tree, solution: Solution, duration: Term) -> Formula:
     """That a domain holds from the start to a time, or something stronger, without a quantifier where that can be said."""
     if domain.word == "true":
         return solver.TRUE
@@ -267,14 +272,14 @@ def inside_enough(meaning: Meaning, domain: Tree, solution: Solution, duration: 
             pass
     moment = solver.fresh("moment")
     holds = meaning.formula(domain, solution.at(moment), False)
-    return solver.quantified(True, moment, solver.either([moment < solver.ZERO, moment > duration, holds]))
+    return solver.quantified(True, moment, solver.either([solver.compare("lt", moment, solver.ZERO), solver.compare("gt", moment, duration), holds]))
 
 
-def keeps_sign(word: str, polynomial: polynomials.Polynomial, duration: Expression) -> Expression:
+def keeps_sign(word: str, polynomial: polynomials.Polynomial, duration: Term) -> Formula:
     """That a polynomial compares with 0 so from the start to a time, or something stronger."""
     if word == "eq":
         stays = solver.both(compared("eq", value, NOUGHT) for value in polynomial[1:])
-        return solver.both([compared("eq", polynomial[0], NOUGHT), solver.either([duration == solver.ZERO, stays])])
+        return solver.both([compared("eq", polynomial[0], NOUGHT), solver.either([solver.compare("eq", duration, solver.ZERO), stays])])
     coefficients = polynomials.bernstein(polynomial, duration)
     if word == "ne":
         return solver.either(solver.both(compared(side, value, NOUGHT) for value in coefficients) for side in ("gt", "lt"))

@@ -11,7 +11,7 @@ from fractions import Fraction
 from typing import Mapping, TypeAlias
 
 from dlkt.semantics import solver
-from dlkt.semantics.solver import Expression
+from dlkt.semantics.solver import Term
 from dlkt.semantics.syntax import differential, exponent, reads
 from dlkt.semantics.values import NOUGHT, State, Terms, Value
 from dlkt.trees import Tree
@@ -60,12 +60,12 @@ def antiderivative(start: Value, polynomial: Polynomial) -> Polynomial:
     return trimmed([start, *found])
 
 
-def at(polynomial: Polynomial, time: Expression) -> Value:
+def at(polynomial: Polynomial, time: Term) -> Value:
     """The value at a time."""
     found, power = NOUGHT, solver.ONE
     for value in polynomial:
         found = found.plus(value.times(Value.of(power)))
-        power = solver.times(power, time)
+        power = power.times(time)
     return found
 
 
@@ -110,7 +110,7 @@ def difference(terms: Terms, comparison: Tree, state: State, along: Mapping[str,
     return added(left, negated(right))
 
 
-def bernstein(polynomial: Polynomial, time: Expression) -> list[Value]:
+def bernstein(polynomial: Polynomial, time: Term) -> list[Value]:
     """The coefficients of a polynomial over [0,time]."""
     degree = len(polynomial) - 1
     scaled, power = [], Value.of(solver.ONE)

@@ -16,9 +16,9 @@ from dlkt.semantics import exactly, invariants, solver
 from dlkt.semantics.exactly import NoRun, Numbers
 from dlkt.semantics.meaning import Meaning
 from dlkt.semantics.numerically import Numeric, Tried, simulated_run
-from dlkt.semantics.paths import Clock, Found, OutOfTime, Paths, Taken, first_names
+from dlkt.semantics.paths import Clock, Found, OutOfTime, Paths, Taken, first_names, pinned
 from dlkt.semantics.runs import Amount, Answer, Kind, Run, Status, Step, counted
-from dlkt.semantics.solver import Expression
+from dlkt.semantics.solver import Expression, Formula, Term
 from dlkt.semantics.syntax import Unsupported, equations
 from dlkt.semantics.values import State, Value
 from dlkt.trees import Tree, text
@@ -141,7 +141,7 @@ class Exact:
 def run_of(found: Found, model: Tree, clock: Clock) -> Run | None:
     """The run that a solution is, with simple numbers where some do; none where it isn't confirmed."""
     names = first_names(model)
-    chosen = [step.constant.decl().name() for step in found.path.taken if step.constant is not None]
+    chosen = [solver.name_of(step.constant) for step in found.path.taken if step.constant is not None]
     symbols = [name for name in names if name.endswith("()")]
     numbers = simple_numbers(found, [*symbols, *chosen, *(name for name in names if name not in symbols)], clock)
     if all(numbers.get(name, Amount.of(0)).exact is not None for name in [*names, *chosen]):
@@ -164,7 +164,7 @@ def simple_numbers(found: Found, names: Sequence[str], clock: Clock) -> dict[str
     numbers: dict[str, Amount] = {}
     for name in names:
         constant = there.get(name)
-        if constant is None:
+        if not isinstance(constant, Term):
             numbers[name] = Amount.of(0)
             continue
         now = amount_of(solution.value(constant))
@@ -172,21 +172,22 @@ def simple_numbers(found: Found, names: Sequence[str], clock: Clock) -> dict[str
             asked += 1
             if asked > ROUND_QUESTIONS or time.process_time() > deadline or clock.left() < 0:
                 break
-            pinned = solver.both([wanted, constant == solver.number(candidate)])
-            answer = solver.timely(pinned, ROUND_MILLISECONDS)
-            if answer.solution and (solver.has_quantifier(wanted) or answer.solution.holds(pinned)):
+            asked_now = solver.both([wanted, pinned(name, candidate)])
+            answer = solver.timely(asked_now, ROUND_MILLISECONDS)
+            if answer.solution and (solver.has_quantifier(wanted) or answer.solution.holds(asked_now)):
                 solution, now = answer.solution, Amount.of(candidate)
                 break
         numbers[name] = now
         if now.exact is not None:
-            wanted = solver.simplified(solver.both([wanted, constant == solver.number(now.exact)]))
+            wanted = solver.both([wanted, pinned(name, now.exact)])
     return numbers
 
 
 def amount_of(expression: Expression) -> Amount:
     """The amount that a number of z3 is."""
-    if solver.is_number(expression):
-        return Amount.of(solver.fraction_of(expression))
+    exact = solver.exact(expression)
+    if exact is not None:
+        return Amount.of(exact)
     known = solver.near(expression)
     return Amount(float(known) if known is not None else float("nan"))
 
@@ -246,12 +247,11 @@ def run_by_solver(found: Found, names: Sequence[str]) -> Run | None:
     return Run(True, first, steps, text(found.fails), sides, found.path.rounds)
 
 
-def all_chosen(asked: Expression, solution: solver.Solution) -> dict[str, Fraction | bool]:
+def all_chosen(asked: Formula, solution: solver.Solution) -> dict[str, Fraction | bool]:
     """The values of all constants, those of choices and times too."""
     found: dict[str, Fraction | bool] = {}
     for name, constant in solver.constants(asked).items():
-        value = solution.value(constant)
-        found[name] = (solver.near(value) or Fraction(0)) if solver.is_real(constant) else solver.is_true(value)
+        found[name] = (solver.near(solution.value(constant)) or Fraction(0)) if isinstance(constant, Term) else solution.holds(constant)
     return found
 
 
@@ -259,7 +259,7 @@ def valued(value: Value, solution: solver.Solution) -> Amount:
     """What a value comes to."""
     for case in value.cases:
         if all(solution.holds(condition) for condition in case.conditions):
-            return amount_of(solution.value(case.numerator if case.denominator is None else case.numerator / case.denominator))
+            return amount_of(solution.value(case.numerator, case.denominator))
     return Amount(float("nan"))
 
 
@@ -272,7 +272,7 @@ def step_by_solver(step: Taken, solution: solver.Solution) -> Step:
         return Step(step.kind, text(tree))
     names = list(equations(tree)) if step.kind == Kind.FLOW else [tree.detail]
     values = {name: valued(step.state.get(name), solution) for name in names}
-    duration = amount_of(solution.value(step.constant)) if step.kind == Kind.FLOW else None
+    duration = amount_of(solution.value(step.constant)) if step.kind == Kind.FLOW and step.constant is not None else None
     shown = f"\\forall {tree.detail}" if tree.word == "forall" else text(tree)
     return Step(step.kind, shown, values, duration, program=tree if duration else None)
 

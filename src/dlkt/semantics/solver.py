@@ -1,26 +1,36 @@
-"""z3 by a few typed functions: real numbers and formulas of them, and questions with a time that is kept.
+"""z3 by a few typed functions: questions on formulas of `expressions`, with a time that is kept, and solutions.
 
-An `Expression` is a term or a formula of z3, which has no types. What is decided: whether a formula of polynomials has a solution, by cylindrical
-algebraic decomposition on demand (nlsat), and with quantifiers by quantifier elimination on top of it (nlqsat).
+What is decided: whether a formula of polynomials has a solution, by cylindrical algebraic decomposition on demand (nlsat), and with quantifiers by
+quantifier elimination on top of it (nlqsat).
 
-z3 4.8.12 now and then answers `sat` to what has no solution, as it is stopped. So no answer is believed that comes as late as its time.
+z3 4.8.12 now and then answers `sat` to what has no solution, as it is stopped. So no answer is believed that comes as late as its time. A question
+is bounded by z3's own count of steps, too: on a machine that isn't free the clock may have more time (`Pace`), and the answers stay the same.
 """
 
 from __future__ import annotations
 
-import itertools
 import time
 from enum import Enum
 from fractions import Fraction
-from typing import Any, Iterable, Mapping, NamedTuple, Sequence, TypeAlias
+from typing import Any, Iterable, Mapping, NamedTuple, TypeAlias
 
 import z3
 
-Expression: TypeAlias = Any
+from dlkt.semantics import expressions
+from dlkt.semantics.expressions import FALSE, TRUE, Formula, Term, no
+
+__all__ = ["FALSE", "TRUE", "Formula", "Term", "no"]
+Expression: TypeAlias = Any  # what z3 has of a term, a formula or a number: it has no types
 MOST_MEMORY = 3_000  # megabytes, behind which z3 stops
 z3.set_param("memory_max_size", MOST_MEMORY)
-LATE = 0.9  # of the time that a question has
-COUNTER = itertools.count(1)
+LATE = 0.9  # of the time or the steps that a question has
+STEPS = 500  # of z3 in about a millisecond
+
+
+class Pace:
+    """By which factor the clock may take longer than on a free machine."""
+
+    factor = 1.0
 
 
 class Said(Enum):
@@ -42,211 +52,198 @@ class Solution:
     def __init__(self, model: Expression) -> None:
         self.model = model
 
-    def value(self, expression: Expression) -> Expression:
-        """The value of an expression, as z3 has it: a number, maybe a root of a polynomial; `true` or `false` of a formula."""
-        return z3.simplify(self.model.eval(expression, model_completion=True))
+    def value(self, term: Term, divisor: Term | None = None) -> Expression:
+        """The value of a term, maybe over another one, as z3 has it: a number, maybe a root of a polynomial."""
+        asked = IN_Z3.term(term) if divisor is None else IN_Z3.term(term) / IN_Z3.term(divisor)
+        return z3.simplify(self.model.eval(asked, model_completion=True))
 
-    def holds(self, formula: Expression) -> bool:
+    def holds(self, formula: Formula) -> bool:
         """Whether a formula is true with these values, by z3's exact arithmetic."""
-        return is_true(self.value(formula))
+        return bool(z3.is_true(z3.simplify(self.model.eval(IN_Z3.formula(formula), model_completion=True))))
 
 
-# Expressions
+# Terms and formulas
 
-def number(value: Fraction | int) -> Expression:
+def number(value: Fraction | int) -> Term:
     """A number."""
-    value = Fraction(value)
-    return z3.RealVal(f"{value.numerator}/{value.denominator}")
+    return expressions.of_number(value)
 
 
 ZERO, ONE = number(0), number(1)
 
 
-def real(name: str) -> Expression:
+def real(name: str) -> Term:
     """A real constant of this name."""
-    return z3.Real(name)
+    return expressions.of_name(name)
 
 
-def truth(name: str) -> Expression:
+def truth(name: str) -> Formula:
     """A constant of this name that is true or false."""
-    return z3.Bool(name)
+    return expressions.of_truth(name)
 
 
-def fresh(name: str) -> Expression:
+def fresh(name: str) -> Term:
     """A real constant that is nowhere else. It has a `!` in its name."""
-    return z3.Real(f"{name}!{next(COUNTER)}")
+    return real(expressions.fresh_name(name))
 
 
-def is_number(expression: Expression) -> bool:
-    """Whether an expression is a rational number."""
-    return bool(z3.is_rational_value(expression))
+def name_of(constant: Term) -> str:
+    """The name of a constant."""
+    (name,) = constant.names()
+    return name
 
 
-def fraction_of(expression: Expression) -> Fraction:
-    """The fraction that a rational number is."""
-    return Fraction(expression.numerator_as_long(), expression.denominator_as_long())
+def compare(word: str, one: Term, other: Term) -> Formula:
+    """That two terms compare so."""
+    return expressions.has_sign(one.plus(other.scaled(-1)), expressions.SIGNS[word])
 
 
-def is_value(expression: Expression, value: int) -> bool:
-    """Whether an expression is this number."""
-    return is_number(expression) and fraction_of(expression) == value
-
-
-def near(expression: Expression) -> Fraction | None:
-    """A rational number as a fraction, a root of a polynomial by one near to it, else none."""
-    if z3.is_rational_value(expression):
-        return fraction_of(expression)
-    if z3.is_algebraic_value(expression):
-        return fraction_of(expression.approx(12))
-    return None
-
-
-def plus(one: Expression, other: Expression) -> Expression:
-    """A sum."""
-    if is_number(one) and is_number(other):
-        return number(fraction_of(one) + fraction_of(other))
-    if is_value(one, 0):
-        return other
-    return one if is_value(other, 0) else one + other
-
-
-def times(one: Expression, other: Expression) -> Expression:
-    """A product."""
-    if is_number(one) and is_number(other):
-        return number(fraction_of(one) * fraction_of(other))
-    for left, right in ((one, other), (other, one)):
-        if is_value(left, 0):
-            return ZERO
-        if is_value(left, 1):
-            return right
-    return one * other
-
-
-def is_zero(expression: Expression) -> Expression:
-    """That an expression is 0."""
-    return expression == ZERO
-
-
-def is_true(formula: Expression) -> bool:
-    """Whether a formula is `true` as it stands."""
-    return bool(z3.is_true(formula))
-
-
-def is_false(formula: Expression) -> bool:
-    """Whether a formula is `false` as it stands."""
-    return bool(z3.is_false(formula))
-
-
-def is_same(one: Expression, other: Expression) -> bool:
-    """Whether two expressions are one."""
-    return bool(one is other or one.eq(other))
-
-
-def denied(formula: Expression) -> Expression | None:
-    """What a negation denies; none of another formula."""
-    return formula.arg(0) if z3.is_not(formula) else None
-
-
-TRUE, FALSE = z3.BoolVal(True), z3.BoolVal(False)
-
-
-def both(parts: Iterable[Expression]) -> Expression:
+def both(parts: Iterable[Formula]) -> Formula:
     """That all parts hold."""
-    wanted = [part for part in parts if not is_true(part)]
-    if any(map(is_false, wanted)):
-        return FALSE
-    return TRUE if not wanted else wanted[0] if len(wanted) == 1 else z3.And(*wanted)
+    return expressions.together(True, parts)
 
 
-def either(parts: Iterable[Expression]) -> Expression:
+def either(parts: Iterable[Formula]) -> Formula:
     """That a part holds."""
-    wanted = [part for part in parts if not is_false(part)]
-    if any(map(is_true, wanted)):
-        return TRUE
-    return FALSE if not wanted else wanted[0] if len(wanted) == 1 else z3.Or(*wanted)
+    return expressions.together(False, parts)
 
 
-def no(formula: Expression) -> Expression:
-    """That a formula doesn't hold."""
-    return FALSE if is_true(formula) else TRUE if is_false(formula) else z3.Not(formula)
-
-
-def implied(premise: Expression, conclusion: Expression) -> Expression:
+def implied(premise: Formula, conclusion: Formula) -> Formula:
     """That the conclusion holds where the premise does."""
     return either([no(premise), conclusion])
 
 
-def quantified(is_for_all: bool, constant: Expression, body: Expression) -> Expression:
+def quantified(is_for_all: bool, constant: Term, body: Formula) -> Formula:
     """That a formula holds for all values of a constant, or for one."""
-    if is_true(body) or is_false(body):
-        return body
-    return z3.ForAll([constant], body) if is_for_all else z3.Exists([constant], body)
+    return expressions.bound(is_for_all, name_of(constant), body)
 
 
-def put(formula: Expression, pairs: Sequence[tuple[Expression, Expression]]) -> Expression:
-    """A formula with constants replaced."""
-    return z3.substitute(formula, *pairs)
-
-
-def simplified(formula: Expression) -> Expression:
-    """An equal expression that z3 takes for simpler."""
-    return z3.simplify(formula)
-
-
-# Looking through expressions
-
-def parts_of(formula: Expression) -> Iterable[Expression]:
-    """All parts of an expression, each once."""
-    seen, waiting = set(), [formula]
-    while waiting:
-        part = waiting.pop()
-        if part.get_id() in seen:
-            continue
-        seen.add(part.get_id())
-        yield part
-        waiting += [part.body()] if z3.is_quantifier(part) else part.children()
-
-
-def has_quantifier(formula: Expression) -> bool:
+def has_quantifier(formula: Formula) -> bool:
     """Whether a quantifier stands in a formula."""
-    return any(z3.is_quantifier(part) for part in parts_of(formula))
+    return formula.depth > 0
 
 
-def constants(formula: Expression) -> dict[str, Expression]:
-    """The constants that stand in an expression, by their names."""
-    found = (part for part in parts_of(formula) if z3.is_const(part) and part.decl().kind() == z3.Z3_OP_UNINTERPRETED)
-    return {part.decl().name(): part for part in found}
+def constants(formula: Formula) -> dict[str, Term | Formula]:
+    """The constants that a formula reads, by their names: real numbers, and truth values."""
+    return {name.removeprefix("?"): truth(name[1:]) if name.startswith("?") else real(name) for name in sorted(formula.names)}
 
 
-def is_real(constant: Expression) -> bool:
-    """Whether a constant is a real number, and no truth value."""
-    return bool(z3.is_real(constant))
+def near(value: Expression) -> Fraction | None:
+    """A rational number of z3 as a fraction, a root of a polynomial by one near to it, else none."""
+    if z3.is_rational_value(value):
+        return exact(value)
+    if z3.is_algebraic_value(value):
+        return exact(value.approx(12))
+    return None
+
+
+def exact(value: Expression) -> Fraction | None:
+    """A rational number of z3 as a fraction; none of another."""
+    return Fraction(value.numerator_as_long(), value.denominator_as_long()) if z3.is_rational_value(value) else None
+
+
+# What z3 gets
+
+class InZ3:
+    """Terms and formulas as z3 has them, each made once."""
+
+    def __init__(self) -> None:
+        self.context = z3.main_ctx()
+        self.names: dict[str, Expression] = {}
+        self.terms: dict[Term, Expression] = {}
+        self.formulas: dict[Formula, Expression] = {}
+
+    def forget(self) -> None:
+        """Lets go what was made."""
+        self.names.clear()
+        self.terms.clear()
+        self.formulas.clear()
+
+    def many(self, making: Any, parts: list[Expression]) -> Any:
+        """An operator of z3 over parts."""
+        if len(parts) == 1:
+            return parts[0].as_ast()
+        return making(self.context.ref(), len(parts), (z3.Ast * len(parts))(*(part.as_ast() for part in parts)))
+
+    def constant(self, name: str) -> Expression:
+        """A real constant."""
+        if name not in self.names:
+            self.names[name] = z3.Real(name)
+        return self.names[name]
+
+    def term(self, term: Term) -> Expression:
+        """A term."""
+        if term not in self.terms:
+            summands = []
+            for monomial, value in term.ordered():
+                factors = [] if value == 1 and monomial else [z3.RealVal(str(value))]
+                factors += [self.constant(name) for name, power in monomial for _ in range(power)]
+                summands.append(z3.ArithRef(self.many(z3.Z3_mk_mul, factors), self.context))
+            self.terms[term] = z3.ArithRef(self.many(z3.Z3_mk_add, summands), self.context) if summands else z3.RealVal(0)
+        return self.terms[term]
+
+    def formula(self, formula: Formula) -> Expression:
+        """A formula."""
+        if formula not in self.formulas:
+            self.formulas[formula] = self.anew(formula)
+        return self.formulas[formula]
+
+    def anew(self, formula: Formula) -> Expression:
+        """A formula, made anew."""
+        if formula.kind == "sign":
+            assert formula.term is not None
+            return self.sign(self.term(formula.term), formula.signs)
+        if formula.kind in ("true", "false"):
+            return z3.BoolVal(formula is TRUE)
+        if formula.kind == "truth":
+            return z3.Bool(formula.name) if formula.signs else z3.Not(z3.Bool(formula.name))
+        parts = [self.formula(part) for part in formula.parts]
+        if formula.kind in ("and", "or"):
+            return z3.BoolRef(self.many(z3.Z3_mk_and if formula.kind == "and" else z3.Z3_mk_or, parts), self.context)
+        return (z3.ForAll if formula.kind == "forall" else z3.Exists)([self.constant(formula.name)], parts[0])
+
+    def sign(self, term: Expression, signs: int) -> Expression:
+        """That a term has one of these signs."""
+        word = {value: word for word, value in expressions.SIGNS.items()}[signs]
+        if word in ("eq", "ne"):
+            return term == 0 if word == "eq" else z3.Not(term == 0)
+        return term < 0 if word == "lt" else term > 0 if word == "gt" else term <= 0 if word == "le" else term >= 0
+
+
+IN_Z3 = InZ3()
+
+
+def forget() -> None:
+    """Lets go all formulas that were made, for long runs."""
+    expressions.forget()
+    IN_Z3.forget()
 
 
 # Questions
 
-def ask(formula: Expression, milliseconds: int) -> Answer:
+def ask(formula: Formula, milliseconds: int) -> Answer:
     """What z3 says of a formula, whenever it comes."""
-    formula = z3.simplify(formula)
-    if is_true(formula):
+    formula = expressions.opened(formula)
+    if formula is TRUE:
         return Answer(Said.SOLVED, None)
-    if is_false(formula):
+    if formula is FALSE:
         return Answer(Said.IMPOSSIBLE, None)
-    tactic = z3.Tactic("nlqsat" if has_quantifier(formula) else "qfnra-nlsat")
     try:
-        solver = z3.TryFor(tactic, milliseconds).solver()
-        solver.add(formula)
+        solver = z3.Tactic("nlqsat" if has_quantifier(formula) else "qfnra-nlsat").solver()  # a new one: nlqsat can't be used again
+        solver.set("timeout", int(milliseconds * Pace.factor))
+        solver.set("rlimit", milliseconds * STEPS)
+        solver.add(z3.simplify(IN_Z3.formula(formula)))  # nlqsat refuses what isn't simplified
         said = Said(str(solver.check()))
         return Answer(said, Solution(solver.model()) if said == Said.SOLVED else None)
     except z3.Z3Exception:
         return Answer(Said.UNKNOWN, None)
 
 
-def timely(formula: Expression, milliseconds: int) -> Answer:
+def timely(formula: Formula, milliseconds: int) -> Answer:
     """What z3 says of a formula, where it doesn't come as late as its time."""
     begin = time.monotonic()
     answer = ask(formula, milliseconds)
-    if time.monotonic() - begin > LATE * milliseconds / 1000:
+    if time.monotonic() - begin > LATE * Pace.factor * milliseconds / 1000:
         return Answer(Said.UNKNOWN, None)
     return answer
 
@@ -263,12 +260,14 @@ def chosen(solution: Solution) -> dict[str, Fraction | bool]:
     return found
 
 
-def is_refuted_by(formula: Expression, values: Mapping[str, Fraction | bool], milliseconds: int) -> bool:
-    """Whether a formula is false where its constants have these values, and 0 and false where none is given. Both the formula and its
-    negation are asked, so that one false answer doesn't count."""
-    pairs = []
+def is_refuted_by(formula: Formula, values: Mapping[str, Fraction | bool], milliseconds: int) -> bool:
+    """Whether a formula is false where its constants have these values, and 0 and false where none is given. Where it has quantifiers, both the
+    formula and its negation are asked, so that one false answer doesn't count."""
+    reals, truths = dict[str, Term](), dict[str, bool]()
     for name, constant in constants(formula).items():
-        value = values.get(name, Fraction(0) if is_real(constant) else False)
-        pairs.append((constant, number(Fraction(value)) if is_real(constant) else z3.BoolVal(bool(value))))
-    there = put(formula, pairs)
+        if isinstance(constant, Term):
+            reals[name] = number(Fraction(values.get(name, 0)))
+        else:
+            truths[name] = bool(values.get(name, False))
+    there = expressions.put_truths(expressions.put(formula, reals), truths)
     return timely(no(there), milliseconds).said == Said.SOLVED and timely(there, milliseconds).said == Said.IMPOSSIBLE

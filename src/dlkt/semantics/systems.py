@@ -9,11 +9,11 @@ decided from which durations the equation has a solution. A right side that read
 from __future__ import annotations
 
 from enum import Enum
-from typing import Mapping, NamedTuple
+from typing import NamedTuple
 
 from dlkt.semantics import polynomials, solver
 from dlkt.semantics.polynomials import NoPolynomial, Polynomial
-from dlkt.semantics.solver import Expression
+from dlkt.semantics.solver import Formula, Term
 from dlkt.semantics.syntax import Unsupported, affine, equations, folded, is_slope, linear, make, mentioned, numeral, reads, shorter, slope, union
 from dlkt.semantics.values import NOUGHT, State, Terms, Value, compared
 from dlkt.trees import Tree
@@ -44,32 +44,33 @@ class Solution(NamedTuple):
     along: dict[str, Polynomial | None]
     poles: list[Pole]
 
-    def at(self, time: Expression) -> State:
+    def at(self, time: Term) -> State:
         """The state at a time."""
         return self.state.put({name: polynomials.at(known, time) for name, known in self.along.items() if known is not None})
 
-    def allowed(self, time: Expression) -> Expression:
+    def allowed(self, time: Term) -> Formula:
         """That a run can last so long."""
         return solver.both(solver.no(ends(pole, time)) for pole in self.poles)
 
     def is_poisoned(self) -> bool:
         """Whether an equation was dropped."""
-        return any(known is not None and POISON in repr([value.cases for value in known]) for known in self.along.values())
+        return any(POISON in case.numerator.names() for known in self.along.values() for value in known or [] for case in value.cases)
 
 
-def ends(pole: Pole, time: Expression) -> Expression:
+def ends(pole: Pole, time: Term) -> Formula:
     """That a pole ends each run before this time."""
     moment = solver.fresh("moment")
-    is_hit = solver.both([moment >= solver.ZERO, moment <= time, compared("eq", polynomials.at(pole.divisor, moment), NOUGHT)])
+    between = [solver.compare("ge", moment, solver.ZERO), solver.compare("le", moment, time)]
+    is_hit = solver.both([*between, compared("eq", polynomials.at(pole.divisor, moment), NOUGHT)])
     moves = solver.either(compared("ne", value, NOUGHT) for value in pole.divisor[1:])
-    later = time > solver.ZERO
+    later = solver.compare("gt", time, solver.ZERO)
     if pole.top is None:
         return solver.both([later, solver.quantified(False, moment, is_hit)])
     if not pole.is_factor:  # the variable is the integral of top/divisor, which has no limit where the divisor gets to 0
         return solver.both([later, moves, solver.quantified(False, moment, is_hit)])
     # the variable is first*|divisor|^(top/slope): it goes on through 0 where that exponent is above 1, and never from a divisor of 0
     is_slow = compared("le", pole.top.over(pole.divisor[1]), Value.of(solver.ONE))
-    stays = solver.either([moment == solver.ZERO, is_slow])
+    stays = solver.either([solver.compare("eq", moment, solver.ZERO), is_slow])
     return solver.both([later, moves, compared("ne", pole.first, NOUGHT), solver.quantified(False, moment, solver.both([is_hit, stays]))])
 
 
@@ -185,9 +186,7 @@ def solved(terms: Terms, system: Tree, state: State, poles: Poles = Poles.REFUSE
     return Solving(terms, system, state, poles).solution()
 
 
-def no_longer_poisoned(formula: Expression) -> Mapping[str, Expression]:
-    """The constants of a formula, which may not read a variable whose equation was dropped."""
-    found = solver.constants(formula)
-    if POISON in found:
+def no_longer_poisoned(formula: Formula) -> None:
+    """Refuses a formula that reads a variable whose equation was dropped."""
+    if POISON in formula.names:
         raise Unsupported("a variable whose equation isn't solved")
-    return found

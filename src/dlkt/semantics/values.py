@@ -6,10 +6,11 @@ What is kept: that the conditions of a value's cases exclude each other and that
 
 from __future__ import annotations
 
-from typing import Callable, Iterator, Mapping, NamedTuple, Protocol
+from fractions import Fraction
+from typing import Callable, Iterator, Mapping, NamedTuple, Protocol, Sequence
 
 from dlkt.semantics import solver
-from dlkt.semantics.solver import Expression
+from dlkt.semantics.solver import Formula, Term
 from dlkt.semantics.syntax import Unsupported
 from dlkt.trees import Tree
 
@@ -20,19 +21,19 @@ MOST_POWER = 12
 class Case(NamedTuple):
     """A value under conditions; the denominator is 1 where there is none."""
 
-    conditions: tuple[Expression, ...]
-    numerator: Expression
-    denominator: Expression | None
+    conditions: tuple[Formula, ...]
+    numerator: Term
+    denominator: Term | None
 
 
-def product(one: Expression | None, other: Expression | None) -> Expression | None:
+def product(one: Term | None, other: Term | None) -> Term | None:
     """The product of two denominators."""
-    return one if other is None else other if one is None else solver.times(one, other)
+    return one if other is None else other if one is None else one.times(other)
 
 
-def scaled(numerator: Expression, factor: Expression | None) -> Expression:
+def scaled(numerator: Term, factor: Term | None) -> Term:
     """A numerator times a denominator, where there is one."""
-    return numerator if factor is None else solver.times(numerator, factor)
+    return numerator if factor is None else numerator.times(factor)
 
 
 class Value:
@@ -46,34 +47,33 @@ class Value:
         self.cases = cases
 
     @staticmethod
-    def of(expression: Expression) -> Value:
-        """The value that an expression is."""
-        return Value([Case((), expression, None)])
+    def of(term: Term) -> Value:
+        """The value that a term of constants is."""
+        return Value([Case((), term, None)])
 
-    def pairs(self, other: Value) -> Iterator[tuple[tuple[Expression, ...], Case, Case]]:
+    def pairs(self, other: Value) -> Iterator[tuple[tuple[Formula, ...], Case, Case]]:
         """The cases of both that can come together, with their conditions."""
         for one in self.cases:
             for two in other.cases:
-                new = [part for part in two.conditions if not any(solver.is_same(part, known) for known in one.conditions)]
-                conditions = (*one.conditions, *new)
-                if not contradict(conditions):
-                    yield conditions, one, two
+                new = [part for part in two.conditions if part not in one.conditions]
+                if not new or not contradict(one.conditions, new):
+                    yield (*one.conditions, *new), one, two
 
     def plus(self, other: Value) -> Value:
         """The sum."""
         found = []
         for conditions, one, two in self.pairs(other):
             first, second = one.denominator, two.denominator
-            if first is not None and second is not None and solver.is_same(first, second):
-                found.append(Case(conditions, solver.plus(one.numerator, two.numerator), first))
+            if first == second:
+                found.append(Case(conditions, one.numerator.plus(two.numerator), first))
             else:
-                top = solver.plus(scaled(one.numerator, second), scaled(two.numerator, first))
+                top = scaled(one.numerator, second).plus(scaled(two.numerator, first))
                 found.append(Case(conditions, top, product(first, second)))
         return Value(found)
 
     def negated(self) -> Value:
         """The value below a minus sign."""
-        return Value([case._replace(numerator=solver.times(solver.number(-1), case.numerator)) for case in self.cases])
+        return Value([case._replace(numerator=case.numerator.scaled(-1)) for case in self.cases])
 
     def minus(self, other: Value) -> Value:
         """The difference."""
@@ -82,7 +82,7 @@ class Value:
     def times(self, other: Value) -> Value:
         """The product."""
         return Value([
-            Case(conditions, solver.times(one.numerator, two.numerator), product(one.denominator, two.denominator))
+            Case(conditions, one.numerator.times(two.numerator), product(one.denominator, two.denominator))
             for conditions, one, two in self.pairs(other)
         ])
 
@@ -91,12 +91,12 @@ class Value:
         found: list[Case] = []
         for conditions, one, two in self.pairs(other):
             divisor = two.numerator
-            if solver.is_number(divisor):
-                found.append(by_number(conditions, one, two))
+            known = divisor.number()
+            if known is not None:
+                found.append(by_number(conditions, one, two, known))
                 continue
-            is_zero = solver.is_zero(divisor)
-            is_known = any(solver.is_same(part, is_zero) for part in conditions)
-            is_denied = any(solver.is_same(solver.denied(part), is_zero) for part in conditions if solver.denied(part) is not None)
+            is_zero = TESTS["eq"](divisor)
+            is_known, is_denied = is_zero in conditions, solver.no(is_zero) in conditions
             if not is_denied:
                 found.append(Case(conditions if is_known else (*conditions, is_zero), solver.ZERO, None))
             if not is_known:
@@ -117,35 +117,30 @@ class Value:
 
     def is_zero(self) -> bool:
         """Whether the value is 0 as it stands."""
-        return all(solver.is_value(case.numerator, 0) for case in self.cases)
+        return not any(case.numerator.coefficients for case in self.cases)
 
 
-def contradict(conditions: tuple[Expression, ...]) -> bool:
-    """Whether a condition stands beside its negation."""
-    denied = [part for part in map(solver.denied, conditions) if part is not None]
-    return any(solver.is_same(one, other) for one in denied for other in conditions)
+def contradict(some: Sequence[Formula], others: Sequence[Formula]) -> bool:
+    """Whether one of some conditions is the negation of one of others."""
+    return any(solver.no(part) in some for part in others)
 
 
-def by_number(conditions: tuple[Expression, ...], one: Case, two: Case) -> Case:
+def by_number(conditions: tuple[Formula, ...], one: Case, two: Case, divisor: Fraction | int) -> Case:
     """A quotient by a number."""
-    divisor = solver.fraction_of(two.numerator)
     if divisor == 0:
         return Case(conditions, solver.ZERO, None)
-    top = solver.times(one.numerator, solver.number(1 / divisor))
-    return Case(conditions, scaled(top, two.denominator), one.denominator)
+    return Case(conditions, scaled(one.numerator.scaled(Fraction(1) / divisor), two.denominator), one.denominator)
 
 
-TESTS: Mapping[str, Callable[[Expression], Expression]] = {
-    "eq": solver.is_zero,
-    "ne": lambda value: solver.no(solver.is_zero(value)),
-    "ge": lambda value: value >= solver.ZERO,
-    "gt": lambda value: value > solver.ZERO,
-    "le": lambda value: value <= solver.ZERO,
-    "lt": lambda value: value < solver.ZERO,
-}
+def test(word: str) -> Callable[[Term], Formula]:
+    """That a term compares so with 0."""
+    return lambda term: solver.compare(word, term, solver.ZERO)
 
 
-def compared(word: str, one: Value, other: Value) -> Expression:
+TESTS: Mapping[str, Callable[[Term], Formula]] = {word: test(word) for word in ("eq", "ne", "ge", "gt", "le", "lt")}
+
+
+def compared(word: str, one: Value, other: Value) -> Formula:
     """That two values compare so."""
     found = []
     for case in one.minus(other).cases:
