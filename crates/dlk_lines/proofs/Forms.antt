@@ -1,7 +1,6 @@
 -- The forms of rules, from the front of a text on.
 use Rattle.std.proofs.Common.{◌≡◌, ◌≢◌, ℕ, List, ◌++◌, Option, Some, None, refl, ap, sym, subst, ◌∙◌, append_assoc}
 use Rattle.std.specs.Prelude.{codes, IsTrue, IfNone}
-use Rattle.std.specs.Str.{IsUtf8}
 use Rattle.dlk_tree.specs.Names.{is_name}
 use Rattle.dlk_tree.specs.Trees.{Tree}
 use Rattle.dlk_calculus.specs.Rules.{Rule, Arguments, OnePlace, TwoPlaces, PlaceAndFormula, OneFormula, PlaceAndName, word_of, arguments_of}
@@ -20,7 +19,7 @@ use Rattle.dlk_lines.specs.Lines.{IsArguments, one_place, two_places, place_and_
 use Rattle.dlk_lines.specs.Parts.{NumberThen, Bracketed}
 use Rattle.dlk_lines.proofs.Cuts.{one_bracketed}
 use Rattle.dlk_lines.proofs.Numbers.{one_number, one_number_then}
-use Rattle.dlk_lines.proofs.WordLaws.{word_lacks, word_utf8}
+use Rattle.dlk_lines.proofs.WordLaws.{word_lacks}
 
 pub if_none : {X : Type 0} {P : Type 0} (o : Option X) → P → IfNone o P
 if_none None p = p
@@ -160,9 +159,6 @@ one_rule w one text r s a b =
 -- without brackets, or where what stands before or in them is none of a rule, a text is no rule
 pub no_brackets : (w : Spelling) (text : List ℕ) → ((word arguments : List ℕ) → ¬ Bracketed text word arguments) → (made : Rule) → ¬ IsRule w text made
 no_brackets w text none made is = let h = rule_parts w text made is in none (word_of made) h.arguments h.brackets
-
-pub no_letters : (w : Spelling) (text word arguments : List ℕ) → Bracketed text word arguments → (¬ IsUtf8 word) → (made : Rule) → ¬ IsRule w text made
-no_letters w text word arguments brackets none made is = none (subst IsUtf8 (bracketed_rule w text word arguments made brackets is).0 (word_utf8 made))
 
 pub no_word : (w : Spelling) (text word arguments : List ℕ) → Bracketed text word arguments → ((made : Rule) → word_of made ≢ word) → (made : Rule) →
     ¬ IsRule w text made

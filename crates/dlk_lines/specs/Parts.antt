@@ -1,7 +1,8 @@
 -- The parts of a line, from the front on.
-use Rattle.std.specs.Prelude.{◌≡◌, ℕ, ◌==◌, IsTrue, not, List, ◌∷◌, ◌++◌, codes}
+use Rattle.std.specs.Prelude.{◌≡◌, ℕ, ◌==◌, IsTrue, false, not, List, ◌∷◌, ◌++◌, slice_index, codes}
 use Rattle.std.specs.List.{list_all}
 use Rattle.dlk_tree.specs.Names.{is_name}
+use Rattle.dlk_grammar.specs.Tokens.{is_digit}
 use Rattle.dlk_calculus.specs.Pairs.{Pair}
 use Rattle.dlk_calculus.specs.Rules.{Rule}
 use Rattle.dlk_calculus.specs.Steps.{Step, Start, UseAxiom, UseRule, Leaf, Apply, Merge, Substitute, Rename}
@@ -23,6 +24,13 @@ pub record NumberThen (text : List ℕ) (stop n : ℕ) (rest : List ℕ) : Type 
   pub digits : List ℕ
   pub is_number : IsNumber digits n
   pub text_is : text ≡ digits ++ stop ∷ rest
+
+-- a number as far as the digits go, and what comes behind the last of them
+pub record NumberInFront (text : List ℕ) (n : ℕ) (rest : List ℕ) : Type 0 where
+  pub digits : List ℕ
+  pub is_number : IsNumber digits n
+  pub text_is : text ≡ digits ++ rest
+  pub ends : is_digit (slice_index rest 0) ≡ false
 
 -- a text without an opening bracket, and a text in brackets behind it
 pub record Bracketed (text word arguments : List ℕ) : Type 0 where

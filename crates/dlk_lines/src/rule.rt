@@ -36,10 +36,7 @@ pub(crate) fn read_rule<P: Spelled, S: Store>(
     let Some((word, arguments)) = bracketed(text) else {
         return Err(LineFault::Malformed);
     };
-    let Ok(word) = str::from_utf8(word) else {
-        return Err(LineFault::Malformed);
-    };
-    let Some(word) = RuleWord::of(word) else {
+    let Some(word) = RuleWord::of_bytes(word) else {
         return Err(LineFault::Malformed);
     };
     let arguments = read_arguments(alloc, word.shape(), arguments, spelled, store)?;

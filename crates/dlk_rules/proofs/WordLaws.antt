@@ -7,10 +7,9 @@ use Rattle.std.proofs.lemmas.Option.{none-some, same_Some}
 use Rattle.std.proofs.lemmas.Slice.Eq.{bytes_eq-Decides}
 use Rattle.dlk_calculus.specs.Rules.{Rule, Close, Arguments, OnePlace, TwoPlaces, PlaceAndFormula, OneFormula, PlaceAndName, word_of, arguments_of}
 use Rattle.dlk_rules.specs.declared.rule.RuleWord.{RuleWord}
-use Rattle.dlk_rules.specs.declared.rule.TheConstants.{RULE_WORDS}
 use Rattle.dlk_rules.specs.declared.rule.RuleWord.TheVariants as word
 use Rattle.dlk_rules.specs.Steps.{Template, WantsPlace, WantsTwoPlaces, WantsPlaceAndFormula, WantsFormula, WantsPlaceAndName, template}
-use Rattle.dlk_rules.specs.Words.{shape_of, text_made, text_of, wanted_by, wanted, named}
+use Rattle.dlk_rules.specs.Words.{shape_of, text_made, text_of, wanted_by, wanted, rule_words, named}
 
 -- a template with arguments of its shape
 abbrev filled : Template → Arguments → Option Rule
@@ -101,9 +100,17 @@ passes p (v ∷ vs) w e =
 -- the word that is found is the text, and where none is found no rule has it
 pub found_word : (text : List ℕ) (found : Option RuleWord) → found ≡ named text → IfSome found (λ w. text_of w ≡ text)
 found_word text None e = tt
-found_word text (Some w) e = (bytes_eq-Decides (text_of w) text).0 (passes (λ v. bytes_eq (text_of v) text) RULE_WORDS w (sym e))
+found_word text (Some w) e = (bytes_eq-Decides (text_of w) text).0 (passes (λ v. bytes_eq (text_of v) text) rule_words w (sym e))
 
 pub no_such_word : (text : List ℕ) (found : Option RuleWord) → found ≡ named text → IfNone found ((rule : Rule) → word_of rule ≢ text)
 no_such_word text (Some w) e = tt
 no_such_word text None e = λ rule same.
     none-some (shape_of (arguments_of rule)) (ap (option_map wanted) e ∙ ap (λ t. option_map wanted (named t)) (sym same) ∙ shape_named rule)
+
+-- where a text is none of the words, no rule has it
+pub no_rule_named : (text : List ℕ) → ((w : RuleWord) → text_of w ≢ text) → (rule : Rule) → word_of rule ≢ text
+no_rule_named text none rule same = go (named (word_of rule)) refl
+  where
+    go : (o : Option RuleWord) → o ≡ named (word_of rule) → ⊥
+    go None e = no_such_word (word_of rule) None e rule refl
+    go (Some w) e = none w (found_word (word_of rule) (Some w) e ∙ same)

@@ -1,5 +1,5 @@
 -- The words and the arguments of rules.
-use Rattle.std.specs.Prelude.{◌≡◌, ℕ, List, [], Option, find, bytes_eq}
+use Rattle.std.specs.Prelude.{◌≡◌, ℕ, List, [], ◌∷◌, Option, find, bytes_eq}
 use Rattle.dlk_tree.specs.declared.op.Op.TheVariants.{True}
 use Rattle.dlk_tree.specs.Trees.{Tree}
 use Rattle.dlk_store.specs.Stores.{IsId, tree}
@@ -14,7 +14,7 @@ use Rattle.dlk_rules.specs.declared.arguments.Arguments.{Arguments}
 use Rattle.dlk_rules.specs.declared.arguments.Arguments.TheVariants as args
 use Rattle.dlk_rules.specs.declared.rule.Rule.{Rule}
 use Rattle.dlk_rules.specs.declared.rule.RuleWord.{RuleWord}
-use Rattle.dlk_rules.specs.declared.rule.TheConstants.{RULE_WORDS}
+use Rattle.dlk_rules.specs.declared.rule.RuleWord.TheVariants as rule_word
 use Rattle.dlk_rules.specs.Steps.{rule_at, RuleIsKnown, Template, WantsPlace, WantsTwoPlaces, WantsPlaceAndFormula, WantsFormula, WantsPlaceAndName, template}
 
 -- the shape of arguments
@@ -80,9 +80,17 @@ ArePlaces formulas (PlaceAndFormula i h) = IsPlace formulas i
 ArePlaces formulas (OneFormula h) = Unit {0}
 ArePlaces formulas (PlaceAndName i y) = IsPlace formulas i
 
+-- the words, each once
+abbrev pub rule_words : List RuleWord
+rule_words =
+    rule_word.Close ∷ rule_word.CloseTrue ∷ rule_word.CloseFalse ∷ rule_word.NotL ∷ rule_word.NotR ∷ rule_word.AndL ∷ rule_word.AndR ∷ rule_word.OrL ∷
+    rule_word.OrR ∷ rule_word.ImplyL ∷ rule_word.ImplyR ∷ rule_word.EquivL ∷ rule_word.EquivR ∷ rule_word.Cut ∷ rule_word.CutL ∷ rule_word.CutR ∷
+    rule_word.HideL ∷ rule_word.HideR ∷ rule_word.CoHideR ∷ rule_word.ExchangeL ∷ rule_word.ExchangeR ∷ rule_word.SkolemL ∷ rule_word.SkolemR ∷
+    rule_word.BoundL ∷ rule_word.BoundR ∷ rule_word.EquivifyR ∷ rule_word.CommuteEquivL ∷ rule_word.CommuteEquivR ∷ []
+
 -- the word that a text is, if it is one
 abbrev pub named : List ℕ → Option RuleWord
-named text = find (λ word. bytes_eq (text_of word) text) RULE_WORDS
+named text = find (λ w. bytes_eq (text_of w) text) rule_words
 
 -- the rule has this word and these arguments, and is known where they are
 pub record IsCall (trees : List Tree) (word : RuleWord) (arguments : Arguments (List ℕ)) (rule : Rule) : Type 0 where

@@ -4,8 +4,9 @@ ghost use Rattle.dlk_tree.specs.Trees.{Tree};
 ghost use Rattle.dlk_calculus.specs.Rules.{Rule as TreeRule, IsProperRule, word_of, arguments_of, FirstAgainst};
 ghost use Rattle.dlk_sequent.specs.Sequents.{sequent_at};
 ghost use Rattle.dlk_rules.specs.declared.rule.RuleFault.TheVariants.{Memory};
+ghost use Rattle.dlk_rules.specs.declared.rule.RuleWord.{RuleWord as TheWord};
 ghost use Rattle.dlk_rules.specs.Steps.{rule_at, RuleIsKnown, side_of, IsOfFormulas, ArePremises, IsRuleFault};
-ghost use Rattle.dlk_rules.specs.Words.{shape_in, arguments_at, ArgumentsAreKnown, text_of, wanted, named, IsCall};
+ghost use Rattle.dlk_rules.specs.Words.{shape_in, arguments_at, ArgumentsAreKnown, text_of, wanted, IsCall};
 
 use crate::arguments::{Arguments, Shape, Side};
 use crate::closing::{close, close_false, close_true};
@@ -121,37 +122,6 @@ pub enum RuleWord {
     CommuteEquivR,
 }
 
-const RULE_WORDS: [RuleWord; 28] = [
-    RuleWord::Close,
-    RuleWord::CloseTrue,
-    RuleWord::CloseFalse,
-    RuleWord::NotL,
-    RuleWord::NotR,
-    RuleWord::AndL,
-    RuleWord::AndR,
-    RuleWord::OrL,
-    RuleWord::OrR,
-    RuleWord::ImplyL,
-    RuleWord::ImplyR,
-    RuleWord::EquivL,
-    RuleWord::EquivR,
-    RuleWord::Cut,
-    RuleWord::CutL,
-    RuleWord::CutR,
-    RuleWord::HideL,
-    RuleWord::HideR,
-    RuleWord::CoHideR,
-    RuleWord::ExchangeL,
-    RuleWord::ExchangeR,
-    RuleWord::SkolemL,
-    RuleWord::SkolemR,
-    RuleWord::BoundL,
-    RuleWord::BoundR,
-    RuleWord::EquivifyR,
-    RuleWord::CommuteEquivL,
-    RuleWord::CommuteEquivR,
-];
-
 impl RuleWord {
     /// The word as it is written.
     pub fn text(self) -> &'static str
@@ -220,14 +190,53 @@ impl RuleWord {
         ensures found { IfSome result (λ word. text_of word ≡ text.now) }
         ensures none { IfNone result ((rule : TreeRule) → word_of rule ≢ text.now) }
     {
+        RuleWord::of_bytes(text.as_bytes())
+    }
+
+    /// The word that the bytes are. None comes where no rule has it.
+    pub fn of_bytes(text: &[u8]) -> Option<RuleWord>
+        ensures found { IfSome result (λ word. text_of word ≡ text.now) }
+        ensures none { IfNone result ((rule : TreeRule) → word_of rule ≢ text.now) }
+    {
         RuleWord::named(text)
     }
 
-    /// The first of the words that is the text.
-    fn named(text: &str) -> Option<RuleWord>
-        ensures { result ≡ named text.now }
+    /// The word that the bytes are.
+    fn named(text: &[u8]) -> Option<RuleWord>
+        ensures found { IfSome result (λ word. text_of word ≡ text.now) }
+        ensures none { IfNone result ((word : TheWord) → text_of word ≢ text.now) }
     {
-        RULE_WORDS.iter().copied().find(|word| word.text() == text)
+        match text {
+            b"close" => Some(RuleWord::Close),
+            b"closeTrue" => Some(RuleWord::CloseTrue),
+            b"closeFalse" => Some(RuleWord::CloseFalse),
+            b"notL" => Some(RuleWord::NotL),
+            b"notR" => Some(RuleWord::NotR),
+            b"andL" => Some(RuleWord::AndL),
+            b"andR" => Some(RuleWord::AndR),
+            b"orL" => Some(RuleWord::OrL),
+            b"orR" => Some(RuleWord::OrR),
+            b"implyL" => Some(RuleWord::ImplyL),
+            b"implyR" => Some(RuleWord::ImplyR),
+            b"equivL" => Some(RuleWord::EquivL),
+            b"equivR" => Some(RuleWord::EquivR),
+            b"cut" => Some(RuleWord::Cut),
+            b"cutL" => Some(RuleWord::CutL),
+            b"cutR" => Some(RuleWord::CutR),
+            b"hideL" => Some(RuleWord::HideL),
+            b"hideR" => Some(RuleWord::HideR),
+            b"coHideR" => Some(RuleWord::CoHideR),
+            b"exchangeL" => Some(RuleWord::ExchangeL),
+            b"exchangeR" => Some(RuleWord::ExchangeR),
+            b"skolemL" => Some(RuleWord::SkolemL),
+            b"skolemR" => Some(RuleWord::SkolemR),
+            b"boundL" => Some(RuleWord::BoundL),
+            b"boundR" => Some(RuleWord::BoundR),
+            b"equivifyR" => Some(RuleWord::EquivifyR),
+            b"commuteEquivL" => Some(RuleWord::CommuteEquivL),
+            b"commuteEquivR" => Some(RuleWord::CommuteEquivR),
+            _ => None,
+        }
     }
 
     /// The rule of this word with these arguments. None comes where the word wants arguments of another shape.
