@@ -219,6 +219,10 @@ impl<S: Store> Store for Kernel<S> {
         self.store.make(alloc, op, kids)
     }
 
+    fn make_like(&mut self, alloc: Global, like: Id, kids: &[Id]) -> Result<Id, StoreFault> {
+        self.store.make_like(alloc, like, kids)
+    }
+
     fn look<L: Ledger>(&self, id: Id, steps: &mut Steps<L>) -> Node<'_> {
         self.store.look(id, steps)
     }

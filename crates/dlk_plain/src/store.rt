@@ -122,6 +122,11 @@ impl Store for PlainStore {
         Ok(id)
     }
 
+    fn make_like(&mut self, alloc: Global, like: Id, kids: &[Id]) -> Result<Id, StoreFault> {
+        let op = self.node(like).op.clone()?;
+        self.make(alloc, op, kids)
+    }
+
     fn look<L: Ledger>(&self, id: Id, steps: &mut Steps<L>) -> Node<'_> {
         steps.tick();
         self.node(id)

@@ -1,2 +1,3 @@
 pub mod Bindings
 pub mod Faults
+pub mod Exchanges

@@ -1,6 +1,9 @@
 //! Exchanging two names in a tree.
-ghost use Rattle.std.specs.Prelude.{◌≡◌, IfOk, map};
-ghost use Rattle.dlk_store.specs.Stores.{IsId, tree, StandsFor};
+ghost use Rattle.std.specs.Prelude.{◌≡◌, IfOk, All, map};
+ghost use Rattle.dlk_tree.specs.Table.{Fits};
+ghost use Rattle.dlk_tree.specs.Trees.{node, root};
+ghost use Rattle.dlk_store.specs.Stores.{IsId, tree, kid_trees, sorts_at, StandsFor};
+ghost use Rattle.dlk_rename.specs.Exchanges.{or_same};
 ghost use Rattle.dlk_calculus.specs.Rename.{swap, swap_name, swap_var, swap_sym, swap_item, swap_op};
 
 use dlk_store::{Id, Steps, Store, StoreFault};
@@ -64,10 +67,11 @@ fn swap_items(alloc: Global, x: &Name, y: &Name, items: &Items) -> Result<Items,
     Ok(Items::new(swapped))
 }
 
-fn swap_op(alloc: Global, x: &Name, y: &Name, op: &Op) -> Result<Op, AllocError>
-    ensures { IfOk result (λ r. r ≡ swap_op x.now y.now op.now) }
+/// The operator with the names exchanged, unless it has no name.
+fn swap_op(alloc: Global, x: &Name, y: &Name, op: &Op) -> Result<Option<Op>, AllocError>
+    ensures { IfOk result (λ r. or_same op.now r ≡ swap_op x.now y.now op.now) }
 {
-    Ok(match op {
+    Ok(Some(match op {
         Op::Variable(v) => Op::Variable(swap_var(x, y, v)?),
         Op::UnitFun(s) => Op::UnitFun(swap_sym(x, y, s)?),
         Op::Apply(s) => Op::Apply(swap_sym(x, y, s)?),
@@ -80,8 +84,28 @@ fn swap_op(alloc: Global, x: &Name, y: &Name, op: &Op) -> Result<Op, AllocError>
         Op::Assign(v) => Op::Assign(swap_var(x, y, v)?),
         Op::Any(z) => Op::Any(swap_name(x, y, z)?),
         Op::System(items) => Op::System(swap_items(alloc, x, y, items)?),
-        other => other.clone()?,
-    })
+        _ => return Ok(None),
+    }))
+}
+
+/// The node of this operator over these kids, or without one the node of the operator of `like`.
+fn make_over<S: Store>(
+    alloc: Global,
+    store: &mut S,
+    like: Id,
+    op: Option<Op>,
+    kids: &[Id],
+) -> Result<Id, StoreFault>
+    requires like { IsId (S.trees store.old) like }
+    requires known { All (IsId (S.trees store.old)) kids.now }
+    requires fits { Fits (or_same (root (tree (S.trees store.old) like)) op) (sorts_at (S.trees store.old) kids.now) }
+    ensures made { IfOk result (λ id. StandsFor (S.trees store.new) id (node (or_same (root (tree (S.trees store.old) like)) op) (kid_trees (S.trees store.old) kids.now))) }
+    ensures grows { S.grows store.old store.new }
+{
+    match op {
+        Some(op) => store.make(alloc, op, kids),
+        None => store.make_like(alloc, like, kids),
+    }
 }
 
 /// The tree with the names `x` and `y` exchanged, and so `x'` and `y'`: in variables, quantifiers, assigned variables, evolved
@@ -112,5 +136,5 @@ pub fn swap<S: Store, L: Ledger>(
     }
     prove!(x.is_name());
     prove!(y.is_name());
-    store.make(alloc, op, new.as_slice())
+    make_over(alloc, store, id, op, new.as_slice())
 }

@@ -23,7 +23,7 @@ use Rattle.dlk_shared.specs.declared.node.Facts.{Facts}
 id_decides : (a b : Id) → Decides (IdEq.ghosts.eq a b) (a ≡ b)
 id_decides a b = search rules
 
-kids_decides : (a b : List Id) → Decides (pointwise IdEq.ghosts.eq a b) (a ≡ b)
+pub kids_decides : (a b : List Id) → Decides (pointwise IdEq.ghosts.eq a b) (a ≡ b)
 kids_decides a b = slice_eq-Decides id_decides a b _ refl
 
 -- the test of keys finds none but equal ones

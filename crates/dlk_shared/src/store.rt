@@ -218,6 +218,20 @@ impl SharedStore {
         }
     }
 
+    /// The id of a node, which is kept if it isn't yet.
+    fn id_of(&mut self, alloc: Global, key: Key) -> Result<Id, StoreFault>
+        requires op { key.op < length self.old.ops.keys }
+        requires known { All (IsId (trees_of self.old.ops.keys self.old.nodes.entries)) key.kids }
+        requires fits { Fits (op_at self.old.ops.keys key.op) (sorts_at (trees_of self.old.ops.keys self.old.nodes.entries) key.kids) }
+        ensures made { IfOk result (λ id. StandsFor (trees_of self.new.ops.keys self.new.nodes.entries) id (node (op_at self.old.ops.keys key.op) (kid_trees (trees_of self.old.ops.keys self.old.nodes.entries) key.kids))) }
+        ensures grows { Keeps (trees_of self.old.ops.keys self.old.nodes.entries) (trees_of self.new.ops.keys self.new.nodes.entries) }
+    {
+        match self.nodes.get_index_of(&key) {
+            Some(place) => Ok(Id(place)),
+            None => self.keep(alloc, key),
+        }
+    }
+
     /// Keeps a node that isn't kept yet, and first numbers its variables and symbols.
     fn keep(&mut self, alloc: Global, key: Key) -> Result<Id, StoreFault>
         requires absent { get ⟦<Key as PartialEq>⟧.eq self.old.nodes key ≡ None }
@@ -283,11 +297,18 @@ impl Store for SharedStore {
     fn make(&mut self, alloc: Global, op: Op, kids: &[Id]) -> Result<Id, StoreFault> {
         let kids = Kids::new(alloc, kids)?;
         let op = self.number(op)?;
-        let key = Key { op, kids };
-        match self.nodes.get_index_of(&key) {
-            Some(place) => Ok(Id(place)),
-            None => self.keep(alloc, key),
+        self.id_of(alloc, Key { op, kids })
+    }
+
+    /// Over the very kids of `like` it is `like`. The operator is found by its number.
+    fn make_like(&mut self, alloc: Global, like: Id, kids: &[Id]) -> Result<Id, StoreFault> {
+        let key = self.key(like);
+        if key.kids.as_slice() == kids {
+            return Ok(like);
         }
+        let op = key.op;
+        let kids = Kids::new(alloc, kids)?;
+        self.id_of(alloc, Key { op, kids })
     }
 
     fn look<L: Ledger>(&self, id: Id, steps: &mut Steps<L>) -> Node<'_> {

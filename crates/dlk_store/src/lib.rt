@@ -2,7 +2,7 @@
 #![tactic(auto)]
 
 ghost use Rattle.std.specs.Prelude.{◌≡◌, ◌↔◌, ◌+◌, ◌-◌, ◌^◌, min, IsTrue, IfOk, All, List, Bool};
-ghost use Rattle.dlk_tree.specs.Trees.{Tree, node, size, depth, WellMade};
+ghost use Rattle.dlk_tree.specs.Trees.{Tree, node, root, size, depth, WellMade};
 ghost use Rattle.dlk_tree.specs.Table.{Fits};
 ghost use Rattle.dlk_tree.specs.Statics.{free, bound, must, both};
 ghost use Rattle.dlk_tree.specs.Occurs.{occurs, has_dot, has_hole};
@@ -81,6 +81,19 @@ pub trait Store {
         requires known { All (IsId (trees self.old)) kids.now }
         requires fits { Fits op (sorts_at (trees self.old) kids.now) }
         ensures made { IfOk result (λ id. StandsFor (trees self.new) id (node op (kid_trees (trees self.old) kids.now))) }
+        ensures grows { grows self.old self.new };
+
+    /// An id of the tree with the operator of the tree `like` and these kids, which are ids of the store whose sorts fit the operator. The operator is neither shown nor
+    /// copied by its name, and no step is counted.
+    ///
+    /// # Errors
+    ///
+    /// `Memory` alone; the store may have more nodes then.
+    fn make_like(&mut self, alloc: Global, like: Id, kids: &[Id]) -> Result<Id, StoreFault>
+        requires like { IsId (trees self.old) like }
+        requires known { All (IsId (trees self.old)) kids.now }
+        requires fits { Fits (root (tree (trees self.old) like)) (sorts_at (trees self.old) kids.now) }
+        ensures made { IfOk result (λ id. StandsFor (trees self.new) id (node (root (tree (trees self.old) like)) (kid_trees (trees self.old) kids.now))) }
         ensures grows { grows self.old self.new };
 
     /// The root of the tree, in one step: the one way to see an operator and its kids.

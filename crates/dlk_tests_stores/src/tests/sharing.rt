@@ -4,6 +4,7 @@ ghost use Rattle.dlk_tree.specs.Trees.{sort};
 ghost use Rattle.dlk_tree.specs.declared.op.Sort.TheVariants.{Term};
 
 use super::same;
+use dlk_plain::PlainStore;
 use dlk_shared::SharedStore;
 use dlk_store::{Id, Steps, Store, StoreFault, Which};
 use dlk_tree::{Kind, Name, Op, Sym, Var};
@@ -47,6 +48,32 @@ fn a_tree_made_twice(rt: HostRuntime) -> Result<(), Fail> {
     same(&rt, (size, depth), (4, 3), &"counts");
     same(&rt, first, second, &"an id");
     same(&rt, next, Id(3), &"the next id");
+    Ok(())
+}
+
+/// Whether a node made like another over its own kid is the same tree, whether one over another kid is the tree that `make` gives, and
+/// whether it is the first.
+fn made_like<S: Store>(alloc: Global, store: &mut S) -> Result<[bool; 3], StoreFault> {
+    let t = store.make(alloc, Op::True, &[])?;
+    let f = store.make(alloc, Op::False, &[])?;
+    let first = store.make(alloc, Op::Not, &[t])?;
+    let again = store.make_like(alloc, first, &[t])?;
+    let other = store.make_like(alloc, first, &[f])?;
+    let wanted = store.make(alloc, Op::Not, &[f])?;
+    Ok([
+        store.same(first, again),
+        store.same(other, wanted),
+        store.same(first, other),
+    ])
+}
+
+#[test]
+fn a_node_made_like_another(rt: HostRuntime) -> Result<(), Fail> {
+    let alloc = rt.alloc();
+    let shared = made_like(alloc, &mut SharedStore::new(alloc))?;
+    same(&rt, shared, [true, true, false], &"shared");
+    let plain = made_like(alloc, &mut PlainStore::new(alloc))?;
+    same(&rt, plain, [true, true, false], &"plain");
     Ok(())
 }
 

@@ -1,5 +1,5 @@
 use Rattle.std.proofs.Common.{◌≡◌, ap, ◌∙◌, arith, rules}
-use Rattle.dlk_tree.specs.Trees.{sort}
+use Rattle.dlk_tree.specs.Trees.{root, sort}
 use Rattle.dlk_store.specs.declared.Id.{Id}
 use Rattle.dlk_store.proofs.Made.{next_known, next_same, next_smaller, next_made, made_fit}
 use Rattle.dlk_calculus.specs.Rename.{swap}
@@ -37,20 +37,25 @@ loop-kid-preserved g t c =
       made = rw c.in_ok-push.ensures.items (made.0, more, made.2);
     }
 
-pub make-requires-clause-fits : goal.make-requires-clause-fits
-make-requires-clause-fits g t c =
+pub make_over-requires-clause-like : goal.make_over-requires-clause-like
+make_over-requires-clause-like g t c = let m = c.loop-kid.invariant.made.1 in omega (arith, m.kept.known, c.requires)
+
+pub make_over-requires-clause-fits : goal.make_over-requires-clause-fits
+make_over-requires-clause-fits g t c =
     let x = c.args.x.now in
     let y = c.args.y.now in
     let made = c.loop-kid.invariant.made in
+    let same = ap root (made.1.kept.same c.args.id c.requires ∙ made.1.node_is) in
     let fits = made_fit made.1 (omega arith) (λ t u well e. ap sort e ∙ swap_sort x y t) (g.met.S.Store.well_made c.args.store.now) c.requires in
-    rw c.as_slice.ensures.value (swapped_fits x y c.is_name.ensures.name c.is_name-2.ensures.name made.0 _ _ made.2 fits)
+    rw (c.as_slice.ensures.value, same) (swapped_fits x y c.is_name.ensures.name c.is_name-2.ensures.name made.0 _ _ made.2 fits)
 
 pub returns-clause-made : goal.returns-clause-made
 returns-clause-made g t c =
     let made = c.loop-kid.invariant.made in
-    let kids = rw c.as_slice.ensures.value at c.make.ensures.made in
+    let same = ap root (made.1.kept.same c.args.id c.requires ∙ made.1.node_is) in
+    let kids = rw (c.as_slice.ensures.value, same) at c.make_over.ensures.made in
     rw (swapped_node c.args.x.now c.args.y.now made.1 (omega arith) _ made.2) kids
 
 pub returns-clause-grows : goal.returns-clause-grows
 returns-clause-grows g t c =
-    g.met.S.Store.grows_trans c.args.store.now c.loop-kid.store c.make.new.self c.loop-kid.invariant.grows c.make.ensures.grows
+    g.met.S.Store.grows_trans c.args.store.now c.loop-kid.store c.make_over.new.store c.loop-kid.invariant.grows c.make_over.ensures.grows

@@ -4,6 +4,7 @@ use Rattle.dlk_tree.specs.Trees.{size}
 use Rattle.dlk_store.specs.Stores.{tree}
 use Rattle.dlk_store.proofs.Made.{Made, Gives}
 use Rattle.dlk_calculus.specs.Rename.{swap, swap_op}
+use Rattle.dlk_rename.specs.Exchanges.{or_same}
 use Rattle.dlk_rename.proofs.exchange.+swap.Given as goal
 
 abbrev pub decreases-swap : goal.decreases-swap
@@ -16,5 +17,5 @@ invariant-loop-kid g l =
     let now = g.S.Store.trees l.store in
     record {
       grows : g.S.Store.grows l.fn.store l.store;
-      made : (op : Op) × Made (Gives (swap l.fn.x l.fn.y)) before now l.fn.id op l.kid-items l.new.items l.kid-index × (l.op ≡ swap_op l.fn.x l.fn.y op);
+      made : (op : Op) × Made (Gives (swap l.fn.x l.fn.y)) before now l.fn.id op l.kid-items l.new.items l.kid-index × (or_same op l.op ≡ swap_op l.fn.x l.fn.y op);
     }
