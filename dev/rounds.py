@@ -105,7 +105,14 @@ def next_round(folder: Path, left: list[Body], most: int) -> list[Body]:
 def linked(folder: Path, to: Path) -> None:
     """Copies what a check kept: what was proved by links, since a check replaces such a file and changes none."""
 
-    shutil.copytree(folder, to, symlinks=True, copy_function=lambda one, other: (os.link if one.endswith(".oantt") else shutil.copy2)(one, other))
+    def copy(one: str, other: str) -> None:
+        """Copies a file, or links it."""
+        if one.endswith(".oantt"):
+            os.link(one, other)
+        else:
+            shutil.copy2(one, other)
+
+    shutil.copytree(folder, to, symlinks=True, copy_function=copy)
 
 
 class Crate:
