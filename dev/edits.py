@@ -30,26 +30,14 @@ refused a row is written to dev/tried.txt: by that `.ci/run` sees which crates c
 With --together wrong bodies of different functions stand in a crate at the same time, and one check tries all of them: `dev/rounds.py` says
 why that is the same. It takes a fifth of the time, or less, and is the way to try the edits of a crate that one works on.
 
-With --look nothing is tried: it is only said which edits can't be applied, since the text that they change is gone or stands there twice. That
-takes a moment, and is to be done whenever code changed. The exit status is then 1 where there are such edits.
+With --look nothing is tried: it is only said which edits can't be applied, since the text that they change is gone or stands there twice. The exit
+status is then 1 where there are such edits. It takes a moment, and is to be done whenever code changed.
 
-With --starved bodies are made and tried in place of those in the folders: in each a refusal becomes want of memory, one refusal a body, wherever
-a function can answer both. One that isn't refused is no fault by itself: an allocation may come first, and want of memory is free then. With
---look the refusals are only listed, each with its place and the function that it stands in.
-
-With --silent the bodies are those of `dev/silent/NAME/`, of which no clause was thought to speak. One that isn't refused is what
-was thought, so the exit status is 1 as a rule; what is refused belongs into `edits/`.
-
-With --consistent the names are those of changes in `dev/consistent/`, or none for all. Each makes one mistake in a definition and in the code
-alike, which no proof sees, and the documents, the examples and the tests have to: `dev/consistent.py` says how they are tried. It takes a build
-without proof for each, so many at a time as --jobs says. A line a change says what has seen it:
-
-    box_is_turned: seen by dev/doc_examples.py: README.md: $ ./dlk check examples/first/model examples/first/term
-    last_row_is_lost: seen by the test it_is_there of dlk_tests_rules
-    nothing_is_wrong: NOT SEEN
-
-What came of a change is kept, and it isn't tried again while the checkout is the same. The exit status is 0 where each is seen, 1 where one isn't,
-and 2 where they could not be tried.
+The other ways try other bodies (docs/TESTED.md): --starved answers want of memory in place of a refusal, one refusal a body, wherever a function can
+answer both; --silent takes the bodies of `dev/silent/NAME/`, of which no clause was thought to speak, so what is refused belongs into `edits/`. One
+that isn't refused is no fault by itself there. --consistent takes changes in `dev/consistent/`, by their names, or all: each makes one mistake in a
+definition and in the code alike, which the documents, the examples and the tests have to see, as `dev/consistent.py` says. A line a change says what
+has seen it, or NOT SEEN; what came of it is kept, and it isn't tried again while the checkout is the same.
 """
 
 import argparse

@@ -251,15 +251,18 @@ def read(data: str | bytes) -> Term:
 
 # Writing
 
+def line_of(step: Step, sides: Callable[[Sides], str], pair: Callable[[str, Tree], str], formula: Callable[[Tree], str]) -> str:
+    """The line of a step by what writes its trees."""
+    if step.sides is not None:
+        return f"{step.number} {step.word} {sides(step.sides)}"
+    if step.pairs is not None:
+        return f"{step.number} subst {step.rest} {','.join(pair(*one) for one in step.pairs)}"
+    return f"{step.number} {step.word} {step.rest}" + (f"{formula(step.formula)})" if step.formula is not None else "")
+
+
 def line_in_full(step: Step) -> str:
     """The line of a step in version 1, with canonical texts."""
-    if step.sides is not None:
-        return f"{step.number} {step.word} {sequent_text(*step.sides)}"
-    if step.pairs is not None:
-        return f"{step.number} subst {step.rest} {','.join(pair_text(*pair) for pair in step.pairs)}"
-    if step.formula is not None:
-        return f"{step.number} apply {step.rest}{text(step.formula)})"
-    return f"{step.number} {step.word} {step.rest}"
+    return line_of(step, lambda sides: sequent_text(*sides), pair_text, text)
 
 
 def in_version_1(term: Term) -> str:
@@ -304,14 +307,10 @@ class Numbering:
 
     def line(self, step: Step) -> str:
         """The line of a step, whose trees have nodes."""
-        if step.sides is not None:
-            return f"{step.number} {step.word} {' '.join([*self.of(step.sides[0]), '==>', *self.of(step.sides[1])])}"
-        if step.pairs is not None:
-            pairs = ",".join(f"{symbol}~>{number}" for (symbol, _), number in zip(step.pairs, self.of(trees_in(step))))
-            return f"{step.number} subst {step.rest} {pairs}"
-        if step.formula is not None:
-            return f"{step.number} apply {step.rest}#{self.of([step.formula])[0]})"
-        return f"{step.number} {step.word} {step.rest}"
+        return line_of(
+            step, lambda sides: " ".join([*self.of(sides[0]), "==>", *self.of(sides[1])]), lambda symbol, tree: f"{symbol}~>{self.of([tree])[0]}",
+            lambda tree: f"#{self.of([tree])[0]}",
+        )
 
 
 def in_version_2(term: Term) -> str:
