@@ -2,7 +2,7 @@
 use Rattle.std.proofs.Common.{◌≡◌, ◌≢◌, ℕ, List, ◌∷◌, ◌++◌, refl, ap, sym, subst, ◌∙◌, append_assoc, arith}
 use Rattle.std.specs.Prelude.{codes, IsTrue, Result, Ok, Err, IfOk, IfErr, if◌then◌else◌}
 use Rattle.std.specs.List.{list_all}
-use Rattle.std.specs.Str.{bytes_eq}
+use Rattle.std.specs.Str.{bytes_eq, IsUtf8}
 use Rattle.dlk_tree.specs.Names.{is_letter, is_name}
 use Rattle.dlk_tree.specs.Trees.{Tree}
 use Rattle.dlk_calculus.specs.Pairs.{Pair}
@@ -20,6 +20,7 @@ use Rattle.dlk_lines.specs.Read.{IsLineFaultOf}
 use Rattle.dlk_lines.proofs.Cuts.{lacks_if, lacks_name, one_cut}
 use Rattle.dlk_lines.proofs.Numbers.{one_number, one_number_then}
 use Rattle.dlk_lines.proofs.Refusals.{fault_of_whole}
+use Rattle.dlk_lines.proofs.WordLaws.{letters_utf8}
 use Rattle.dlk_lines.proofs.Forms.{one_rule}
 
 -- The kinds of steps are numbered, and a word tells the number.
@@ -204,6 +205,10 @@ step_worded w text word rest step cut is =
 
 pub no_space : (w : Spelling) (text : List ℕ) → ((word rest : List ℕ) → text ≢ word ++ 32 ∷ rest) → (step : Step) → ¬ IsStep w text step
 no_space w text none step is = let h = step_parts w text step is in none (step_word step) h.rest h.cut.text_is
+
+pub no_step_word : (w : Spelling) (text word rest : List ℕ) → CutAt text 32 word rest → (¬ IsUtf8 word) → (step : Step) → ¬ IsStep w text step
+no_step_word w text word rest cut none step is =
+    none (rw (step_worded w text word rest step cut is).word_is (letters_utf8 (step_word step) (word_letters step)))
 
 -- what is answered to a word and what stands behind it, as an answer to a text
 pub step_or_none : (w : Spelling) (trees : List Tree) (text word rest : List ℕ) → CutAt text 32 word rest → (r : Result IdStep LineFault) →

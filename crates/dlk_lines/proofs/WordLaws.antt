@@ -2,8 +2,9 @@
 use Rattle.std.proofs.Common.{◌≡◌, ℕ, zero, suc, ◌<◌, ◌≤◌, true, List, [], ◌∷◌, refl, inl, inr, arith}
 use Rattle.std.specs.Prelude.{IsTrue}
 use Rattle.std.specs.List.{list_all}
-use Rattle.std.specs.Str.{IsAscii}
+use Rattle.std.specs.Str.{IsAscii, IsUtf8}
 use Rattle.std.proofs.lemmas.Bool.{cases_Bool, and_parts, leb-true}
+use Rattle.std.proofs.lemmas.Str.{IsUtf8-from_ascii}
 use Rattle.dlk_tree.specs.Names.{is_between, is_letter}
 use Rattle.dlk_calculus.specs.Rules.{Rule, Close, word_of}
 use Rattle.dlk_lines.specs.Parts.{Lacks}
@@ -35,3 +36,6 @@ ascii (b ∷ bs) all =
     elim_index : b < 128 → IsAscii bs → IsAscii (b ∷ bs)
     elim_index low more zero = low
     elim_index low more (suc i) = more i
+
+pub letters_utf8 : (word : List ℕ) → IsTrue (list_all is_letter word) → IsUtf8 word
+letters_utf8 word all = IsUtf8-from_ascii word (ascii word all)

@@ -46,13 +46,16 @@ pub fn read_step<P: Spelled, S: Store>(
     let Some((word, rest)) = cut_at(text, b' ') else {
         return Err(LineFault::Malformed);
     };
+    let Ok(word) = str::from_utf8(word) else {
+        return Err(LineFault::Malformed);
+    };
     step_of_word(alloc, word, rest, spelled, store)
 }
 
 /// The step of a word, with what stands behind the word.
 fn step_of_word<P: Spelled, S: Store>(
     alloc: Global,
-    word: &[u8],
+    word: &str,
     rest: &[u8],
     spelled: &mut P,
     store: &mut S,
@@ -66,28 +69,28 @@ fn step_of_word<P: Spelled, S: Store>(
     ensures grows { S.grows store.old store.new }
 {
     match word {
-        b"apply" => {
+        "start" => Ok(Step::Start(spelled.sequent(alloc, rest, store)?)),
+        "axiom" => Ok(Step::Axiom(name(alloc, rest)?)),
+        "rule" => Ok(Step::AxRule(name(alloc, rest)?)),
+        "leaf" => Ok(Step::Leaf(spelled.sequent(alloc, rest, store)?)),
+        "apply" => {
             let (fact, goal, rule) = read_apply(alloc, rest, spelled, store)?;
             Ok(Step::Apply { fact, goal, rule })
         }
-        b"subst" => {
-            let (fact, pairs) = read_subst(alloc, rest, spelled, store)?;
-            Ok(Step::Subst { fact, pairs })
-        }
-        b"merge" => {
+        "merge" => {
             let Some((fact, goal, by)) = read_merge(rest) else {
                 return Err(LineFault::Malformed);
             };
             Ok(Step::Merge { fact, goal, by })
         }
-        b"rule" => Ok(Step::AxRule(name(alloc, rest)?)),
-        b"axiom" => Ok(Step::Axiom(name(alloc, rest)?)),
-        b"rename" => {
+        "subst" => {
+            let (fact, pairs) = read_subst(alloc, rest, spelled, store)?;
+            Ok(Step::Subst { fact, pairs })
+        }
+        "rename" => {
             let (fact, x, y) = read_rename(alloc, rest)?;
             Ok(Step::Rename { fact, x, y })
         }
-        b"leaf" => Ok(Step::Leaf(spelled.sequent(alloc, rest, store)?)),
-        b"start" => Ok(Step::Start(spelled.sequent(alloc, rest, store)?)),
         _ => Err(LineFault::Malformed),
     }
 }
