@@ -17,9 +17,12 @@ use Rattle.dlk_calculus.proofs.Formulas.{Derives-formulas}
 use Rattle.dlk_sequent.specs.Sequents.{IsKnown}
 use Rattle.dlk_sequent.proofs.Kept.{IsId-kept, map-agree, sequent-kept, sequents-kept, IsKnown-kept}
 use Rattle.dlk_kernel.specs.declared.row.Row.{Row}
-use Rattle.dlk_kernel.specs.Kernel.{State, provable_at, provables_at, IsKnownRow, AreSoundRows, IsSound, SameRows, ExtendsRows}
+use Rattle.dlk_kernel.specs.Kernel.{State, provable_at, provables_at, IsKnownRow, AreSoundRows, SameRows, ExtendsRows}
 use Rattle.dlk_kernel.specs.declared.axioms.NamedFormula.{NamedFormula}
-use Rattle.dlk_kernel.specs.Named.{IsFormulaOf, AreFormulas}
+use Rattle.dlk_kernel.specs.declared.named.Named.{Named}
+use Rattle.dlk_kernel.specs.declared.named_rules.NamedRule.{NamedRule}
+use Rattle.dlk_kernel.specs.Named.{IsFormulaOf, AreFormulas, IsRowNamed, AreRows, AreNamed}
+use Rattle.dlk_kernel.specs.Sound.{IsSound}
 
 module _ (old new : List Tree) (keeps : Keeps old new) where
   provable_kept : (row : Row) → IsKnownRow old row → provable_at new row ≡ provable_at old row
@@ -59,9 +62,21 @@ module _ (old new : List Tree) (keeps : Keeps old new) where
   pub formulas_kept : (all : List NamedFormula) → AreFormulas old all → AreFormulas new all
   formulas_kept all h = All-weaker (λ (n : NamedFormula). IsFormulaOf old n.name n.formula) (λ n. IsFormulaOf new n.name n.formula) formula_kept all h
 
-  pub still_sound : (unique : Bool) (rows : List Row) (before now : List NamedFormula) → IsSound unique old rows before → AreFormulas new now →
-      IsSound unique new rows now
-  still_sound unique rows before now h formulas = record { is_unique = h.is_unique; are_sound = sound_kept rows h.are_sound; are_formulas = formulas }
+  named_row_kept : (n : NamedRule) → IsRowNamed old n.name n.row → IsRowNamed new n.name n.row
+  named_row_kept n h = record {
+    found = h.found;
+    named = h.named;
+    is_row = record { known = row_kept n.row h.is_row.known; stands = provable_kept n.row h.is_row.known ∙ h.is_row.stands };
+  }
+
+  pub named_rows_kept : (all : List NamedRule) → AreRows old all → AreRows new all
+  named_rows_kept all h = All-weaker (λ (n : NamedRule). IsRowNamed old n.name n.row) (λ n. IsRowNamed new n.name n.row) named_row_kept all h
+
+  pub named_kept : (named : Named) → AreNamed old named → AreNamed new named
+  named_kept named h = record { axioms = formulas_kept named.axioms h.axioms; rules = named_rows_kept named.rules h.rules }
+
+  pub still_sound : (unique : Bool) (rows : List Row) (before now : Named) → IsSound unique old rows before → AreNamed new now → IsSound unique new rows now
+  still_sound unique rows before now h are_named = record { is_unique = h.is_unique; are_sound = sound_kept rows h.are_sound; are_named = are_named }
 
   -- a row that a step gives comes last
   module _ (rows after : List Row) (row : Row) (sound : AreSoundRows old rows) (step : Step) (given : Gives (provables_at old rows) step (provable_at new row))
@@ -108,10 +123,10 @@ sound_take trees n rows h = record {
   few = omega (arith, h.few, length-take n rows);
 }
 
-pub still_sound_take : (unique : Bool) (trees : List Tree) (n : ℕ) (rows : List Row) (named : List NamedFormula) → IsSound unique trees rows named →
+pub still_sound_take : (unique : Bool) (trees : List Tree) (n : ℕ) (rows : List Row) (named : Named) → IsSound unique trees rows named →
     IsSound unique trees (take n rows) named
 still_sound_take unique trees n rows named h =
-    record { is_unique = h.is_unique; are_sound = sound_take trees n rows h.are_sound; are_formulas = h.are_formulas }
+    record { is_unique = h.is_unique; are_sound = sound_take trees n rows h.are_sound; are_named = h.are_named }
 
 -- rows that stay, over a store that has grown
 pub same_rows : {S : Type 0} (trees : S → List Tree) (old new : State S) → Keeps (trees old.store) (trees new.store) →

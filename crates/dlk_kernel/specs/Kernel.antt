@@ -1,5 +1,5 @@
--- What a kernel's rows stand for, and what its type keeps of them.
-use Rattle.std.specs.Prelude.{◌≡◌, ◌≤◌, Bool, IsTrue, List, map, take, length, All}
+-- What a kernel's rows stand for, and what is kept of them.
+use Rattle.std.specs.Prelude.{◌≡◌, ◌≤◌, List, map, take, length, All}
 use Rattle.dlk_tree.specs.Trees.{Tree}
 use Rattle.dlk_calculus.specs.Provables.{Provable}
 use Rattle.dlk_calculus.specs.Limits.{most_rows}
@@ -7,8 +7,6 @@ use Rattle.dlk_calculus.specs.Limited.{IsLimited}
 use Rattle.dlk_calculus.specs.Steps.{History}
 use Rattle.dlk_sequent.specs.Sequents.{sequent_at, IsKnown}
 use Rattle.dlk_kernel.specs.declared.row.Row.{Row}
-use Rattle.dlk_kernel.specs.declared.axioms.NamedFormula.{NamedFormula}
-use Rattle.dlk_kernel.specs.Named.{AreFormulas}
 
 -- what contracts see of a kernel over a store
 pub record State (S : Type 0) : Type 0 where
@@ -43,12 +41,6 @@ pub record AreSoundRows (trees : List Tree) (rows : List Row) : Type 0 where
   pub history : History (provables_at trees rows)
   pub limited : All IsLimited (provables_at trees rows)
   pub few : length rows ≤ most_rows
-
--- what the type keeps: a tree has at most one id in the store, the rows are sound, and the axioms that were named have their formulas
-pub record IsSound (unique : Bool) (trees : List Tree) (rows : List Row) (named : List NamedFormula) : Type 0 where
-  pub is_unique : IsTrue unique
-  pub are_sound : AreSoundRows trees rows
-  pub are_formulas : AreFormulas trees named
 
 -- the rows are as before, and stand for what they stood for
 pub record SameRows {S : Type 0} (trees : S → List Tree) (old new : State S) : Type 0 where

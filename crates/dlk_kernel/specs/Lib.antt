@@ -2,5 +2,6 @@ pub mod Kernel
 pub mod Faults
 pub mod Limits
 pub mod Named
+pub mod Sound
 pub mod Looks
 pub mod Taken

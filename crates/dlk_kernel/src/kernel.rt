@@ -1,5 +1,5 @@
-use crate::axioms::NamedAxioms;
 use crate::fault::StepFault;
+use crate::named::Named;
 use crate::row::Row;
 use crate::steps::give;
 use dlk_calculus::{MOST_ROWS, Reason};
@@ -22,11 +22,12 @@ pub type Fact = u32;
 pub struct Kernel<S: Store> {
     store: S,
     rows: Vec<Row>,
-    named: NamedAxioms,
+    named: Named,
 }
 
 impl<S: Store> Model for Kernel<S> {
-    ghost use Rattle.dlk_kernel.specs.Kernel.{State, IsSound};
+    ghost use Rattle.dlk_kernel.specs.Kernel.{State};
+    ghost use Rattle.dlk_kernel.specs.Sound.{IsSound};
 
     ghost Value = { State S };
 
@@ -58,7 +59,7 @@ impl<S: Store> Kernel<S> {
         Kernel {
             store,
             rows: Vec::new(alloc),
-            named: NamedAxioms::new(alloc),
+            named: Named::new(alloc),
         }
     }
 

@@ -6,6 +6,8 @@ mod fault;
 mod kernel;
 mod leaves;
 mod limits;
+mod named;
+mod named_rules;
 mod renaming;
 mod row;
 mod steps;

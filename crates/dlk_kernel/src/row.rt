@@ -1,4 +1,7 @@
+ghost use Rattle.std.specs.Prelude.{◌≡◌, IfOk};
+
 use dlk_sequent::{Listed, Sequent, Shared};
+use std::alloc::{AllocError, Global};
 
 /// A provable over the ids of a store. A row shares with earlier ones what it keeps of them: the conclusion, goals, the leaves.
 #[derive(Drop, Debug)]
@@ -6,4 +9,20 @@ pub struct Row {
     pub conclusion: Shared<Sequent>,
     pub goals: Listed<Shared<Sequent>>,
     pub leaves: Shared<Listed<Shared<Sequent>>>,
+}
+
+impl Row {
+    /// The same row once more, which shares all that this one has.
+    pub(crate) fn share(&self, alloc: Global) -> Result<Row, AllocError>
+        ensures { IfOk result (λ row. row ≡ self.now) }
+    {
+        let conclusion = self.conclusion.share()?;
+        let goals = self.goals.share_with_room(alloc, 0)?;
+        let leaves = self.leaves.share()?;
+        Ok(Row {
+            conclusion,
+            goals,
+            leaves,
+        })
+    }
 }

@@ -4,11 +4,12 @@ ghost use Rattle.dlk_calculus.specs.Provables.{Provable};
 ghost use Rattle.dlk_calculus.specs.Steps.{UseRule, Gives, IsWithin, Fault};
 ghost use Rattle.dlk_kernel.specs.Faults.{IsStepFault};
 ghost use Rattle.dlk_kernel.specs.Kernel.{provable_at, IsKnownRow};
+ghost use Rattle.dlk_kernel.specs.Named.{AreRows};
 
 use crate::fault::StepFault;
+use crate::named_rules::NamedRules;
 use crate::row::Row;
 use dlk_calculus::Reason;
-use dlk_sequent::{Listed, Shared, shared_each};
 use dlk_store::Store;
 use dlk_tree::Name;
 use std::alloc::Global;
@@ -23,24 +24,19 @@ use std::alloc::Global;
 pub(super) fn axiomatic_rule<S: Store>(
     alloc: Global,
     store: &mut S,
+    rules: &mut NamedRules,
     name: &Name,
 ) -> Result<Row, StepFault>
+    requires { AreRows (S.trees store.old) rules.old }
     ensures given { IfOk result (λ row. (rows : List Provable) → Gives rows (UseRule name.now) (provable_at (S.trees store.new) row)) }
     ensures within { IfOk result (λ row. IsWithin (UseRule name.now) (provable_at (S.trees store.new) row)) }
     ensures known { IfOk result (IsKnownRow (S.trees store.new)) }
     ensures fault { IfErr result (IsStepFault (λ why. (rows : List Provable) → Fault rows (UseRule name.now) why)) }
+    ensures named { AreRows (S.trees store.new) rules.new }
     ensures grows { S.grows store.old store.new }
 {
-    let Some((premises, conclusion)) = dlk_axioms::axiomatic_rule(alloc, store, name.bytes())?
-    else {
-        return Err(StepFault::Refused(Reason::UnknownName));
-    };
-    let conclusion = Shared::new(alloc, conclusion)?;
-    let leaves = Shared::new(alloc, Listed::new(alloc))?;
-    let goals = shared_each(alloc, premises)?;
-    Ok(Row {
-        conclusion,
-        goals,
-        leaves,
-    })
+    match rules.row(alloc, store, name)? {
+        Some(row) => Ok(row),
+        None => Err(StepFault::Refused(Reason::UnknownName)),
+    }
 }

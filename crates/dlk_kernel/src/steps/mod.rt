@@ -7,7 +7,7 @@ ghost use Rattle.dlk_rules.specs.Steps.{step_at, HasKnownIds};
 ghost use Rattle.dlk_kernel.specs.Faults.{IsStepFault};
 ghost use Rattle.dlk_kernel.specs.Kernel.{provable_at, provables_at, IsKnownRow};
 ghost use Rattle.dlk_kernel.specs.Looks.{LooksAtFew};
-ghost use Rattle.dlk_kernel.specs.Named.{AreFormulas};
+ghost use Rattle.dlk_kernel.specs.Named.{AreNamed};
 
 mod apply;
 mod axiom;
@@ -18,8 +18,8 @@ mod rename;
 mod start;
 mod substitute;
 
-use crate::axioms::NamedAxioms;
 use crate::fault::StepFault;
+use crate::named::Named;
 use crate::row::Row;
 use dlk_rules::Step;
 use dlk_store::{Steps, Store};
@@ -30,13 +30,13 @@ use std::sync::ledger::Ledger;
 pub(crate) fn give<S: Store, L: Ledger>(
     alloc: Global,
     store: &mut S,
-    axioms: &mut NamedAxioms,
+    named: &mut Named,
     rows: &[Row],
     step: &Step,
     steps: &mut Steps<L>,
 ) -> Result<Row, StepFault>
     requires known { HasKnownIds (S.trees store.old) step.now }
-    requires named { AreFormulas (S.trees store.old) axioms.old }
+    requires named { AreNamed (S.trees store.old) named.old }
     requires rows { All (IsKnownRow (S.trees store.old)) rows.now }
     requires formulas { All HasFormulas (provables_at (S.trees store.old) rows.now) }
     requires limited { All IsLimited (provables_at (S.trees store.old) rows.now) }
@@ -44,14 +44,16 @@ pub(crate) fn give<S: Store, L: Ledger>(
     ensures within { IfOk result (λ row. IsWithin (step_at (S.trees store.old) step.now) (provable_at (S.trees store.new) row)) }
     ensures known { IfOk result (IsKnownRow (S.trees store.new)) }
     ensures fault { IfErr result (IsStepFault (Fault (provables_at (S.trees store.old) rows.now) (step_at (S.trees store.old) step.now))) }
-    ensures named { AreFormulas (S.trees store.new) axioms.new }
+    ensures named { AreNamed (S.trees store.new) named.new }
     ensures grows { S.grows store.old store.new }
     ensures looks { IsTrue S.unique → LooksAtFew (provables_at (S.trees store.old) rows.now) (step_at (S.trees store.old) step.now) steps.old steps.new }
 {
     match step {
         Step::Start(s) => start::start(alloc, store, s, steps),
-        Step::Axiom(name) => axiom::axiom(alloc, store, axioms, name),
-        Step::AxRule(name) => axiomatic_rule::axiomatic_rule(alloc, store, name),
+        Step::Axiom(name) => axiom::axiom(alloc, store, &mut named.axioms, name),
+        Step::AxRule(name) => {
+            axiomatic_rule::axiomatic_rule(alloc, store, &mut named.rules, name)
+        }
         Step::Leaf(s) => leaf::leaf(alloc, store, s, steps),
         Step::Apply { fact, goal, rule } => {
             apply::apply(alloc, store, rows, *fact, *goal, rule, steps)

@@ -31,7 +31,7 @@ invariant_of-self-2 g c =
           sound_more _ _ (g.met.S.Store.grows_keeps c.self.inside.store c.give.new.store c.give.ensures.grows) _ _ c.in_ok-row.row c.self.invariant.are_sound _
           (rw c.as_slice.ensures.value at c.in_ok-row.ensures.given) c.in_ok-row.ensures.within (omega (arith, c.if-len-ge-MOST_ROWS.false, c.len.ensures))
           c.in_ok-push.ensures.items c.in_ok-row.ensures.known;
-      are_formulas = c.give.ensures.named;
+      are_named = c.give.ensures.named;
     }
 
 pub returns-in_err-row-clause-err : goal.returns-in_err-row-clause-err
@@ -70,4 +70,4 @@ returns-clause-kept g c =
     (g.met.S.Store.grows_keeps c.self.inside.store c.give.new.store c.give.ensures.grows) c.self.invariant.are_sound c.in_ok-push.ensures.items)
 
 pub give-requires-clause-named : goal.give-requires-clause-named
-give-requires-clause-named g c = c.self.invariant.are_formulas
+give-requires-clause-named g c = c.self.invariant.are_named
