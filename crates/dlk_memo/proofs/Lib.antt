@@ -3,3 +3,4 @@ pub mod Parts
 pub mod Tables
 pub mod Counted
 pub mod Rules
+pub mod Tasks

@@ -3,3 +3,4 @@ pub mod Ids
 pub mod Looks
 pub mod Tables
 pub mod Rules
+pub mod Tasks

@@ -1,7 +1,7 @@
 //! A formula in place of `_`.
-ghost use Rattle.std.specs.Prelude.{⊤};
+ghost use Rattle.std.specs.Prelude.{◌≡◌, ⊤};
 ghost use Rattle.dlk_tree.specs.Trees.{Tree};
-ghost use Rattle.dlk_tree.specs.Occurs.{has_hole};
+ghost use Rattle.dlk_tree.specs.Occurs.{has_hole, is_hole};
 ghost use Rattle.dlk_store.specs.Stores.{tree};
 ghost use Rattle.dlk_memo.specs.Rules.{IsReadyFormula, Fills, FillsAll, FillsAt, filling, ready_formula_kept, formula_same};
 
@@ -19,6 +19,11 @@ pub(crate) struct Filling {
 }
 
 impl Rule for Filling {
+    /// Whether the operator is `_`.
+    type Task = bool;
+
+    ghost IsTask = { λ r op task. task ≡ is_hole op };
+
     ghost Job = { Tree };
 
     ghost job = { λ r trees. tree trees r.formula };
@@ -55,18 +60,23 @@ impl Rule for Filling {
         Ok(true)
     }
 
+    fn task(&self, op: &Op) -> Result<bool, AllocError> {
+        Ok(matches!(op, Op::Hole))
+    }
+
     fn at<S: Store, L: Ledger>(
         &self,
         alloc: Global,
         store: &mut S,
-        op: &Op,
+        id: Id,
+        task: bool,
         _old: &[Id],
         new: &[Id],
         _steps: &mut Steps<L>,
     ) -> Result<Id, ApplyFault> {
-        if matches!(op, Op::Hole) {
+        if task {
             return Ok(self.formula);
         }
-        Ok(store.make(alloc, op.clone()?, new)?)
+        Ok(store.make_like(alloc, id, new)?)
     }
 }

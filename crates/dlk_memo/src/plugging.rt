@@ -6,6 +6,7 @@ ghost use Rattle.dlk_store.specs.Stores.{IsId, tree};
 ghost use Rattle.dlk_calculus.specs.Plug.{IsClear, Plug, PlugAll, PlugAt};
 ghost use Rattle.dlk_subst.specs.Results.{args_at};
 ghost use Rattle.dlk_subst.specs.Rows.{plugging};
+ghost use Rattle.dlk_subst.specs.DotEffects.{dot_effect_of};
 ghost use Rattle.dlk_memo.specs.Binders.{AllowsBelow};
 ghost use Rattle.dlk_memo.specs.Rules.{AreReadyArgs, ready_args_kept, args_same, plug_allows};
 
@@ -13,7 +14,7 @@ use crate::binder::quantified;
 use crate::rule::Rule;
 use dlk_sequent::ApplyFault;
 use dlk_store::{Id, Steps, Store};
-use dlk_subst::{Scope, is_clear, plug_at};
+use dlk_subst::{DotEffect, Scope, dot_effect_at, is_clear, plug_like};
 use dlk_tree::Op;
 use std::alloc::{AllocError, Global};
 use std::sync::ledger::Ledger;
@@ -38,6 +39,10 @@ fn has_dots<S: Store>(store: &S, id: Id) -> bool
 }
 
 impl Rule for Plugging<'_> {
+    type Task = DotEffect;
+
+    ghost IsTask = { λ r op task. task ≡ dot_effect_of op };
+
     ghost Job = { List Tree };
 
     ghost job = { λ r trees. args_at trees r.args.now };
@@ -77,15 +82,20 @@ impl Rule for Plugging<'_> {
         }
     }
 
+    fn task(&self, op: &Op) -> Result<DotEffect, AllocError> {
+        dot_effect_at(op)
+    }
+
     fn at<S: Store, L: Ledger>(
         &self,
         alloc: Global,
         store: &mut S,
-        op: &Op,
+        id: Id,
+        task: DotEffect,
         old: &[Id],
         new: &[Id],
         _steps: &mut Steps<L>,
     ) -> Result<Id, ApplyFault> {
-        plug_at(alloc, store, self.args, op, old, new)
+        plug_like(alloc, store, self.args, id, task, old, new)
     }
 }

@@ -1,7 +1,7 @@
 //! What a walk makes of a node.
 ghost use Rattle.std.specs.Prelude.{◌≡◌, ◌↔◌, ◌+◌, ◌≤◌, ℕ, Bool, IsTrue, IfOk, All, Err, List, false};
 ghost use Rattle.dlk_tree.specs.Table.{Fits};
-ghost use Rattle.dlk_tree.specs.Trees.{Tree, Forest, sort, WellMade};
+ghost use Rattle.dlk_tree.specs.Trees.{Tree, Forest, root, sort, WellMade};
 ghost use Rattle.dlk_tree.specs.declared.op.Op.{Op as TheOp};
 ghost use Rattle.dlk_store.specs.Stores.{IsId, tree, Keeps, kid_trees, sorts_at};
 ghost use Rattle.dlk_store.specs.Rows.{GoesByRows};
@@ -16,6 +16,9 @@ use std::sync::ledger::Ledger;
 
 /// A rule by which a walk makes a tree of a tree, node by node. It depends on the node alone and never on the path to it.
 pub(crate) trait Rule {
+    /// What it is to do at a node once the kids are made. It is found when the node is looked at, so that the operator isn't needed again.
+    type Task: Drop;
+
     /// What it stands for over trees.
     ghost Job: { Type 0 };
 
@@ -35,6 +38,9 @@ pub(crate) trait Rule {
     /// it makes of the kids.
     ghost Allows: { Job → TheOp → Forest → Type 0 };
 
+    /// The task is the one at this operator.
+    ghost IsTask: { Self → TheOp → Self.Task → Type 0 };
+
     /// How many looks it takes at a node, beside the one at the node.
     ghost looks: { Job → ℕ };
 
@@ -53,22 +59,29 @@ pub(crate) trait Rule {
         requires known { All (IsId (S.trees store.now)) kids.now }
         ensures asked { IfOk result (λ b. IsTrue b ↔ Allows (job self.now (S.trees store.now)) op.now (kid_trees (S.trees store.now) kids.now)) };
 
-    /// What it makes of the operator over old kids, of which it made the new ones.
+    /// What it is to do at the operator.
+    fn task(&self, op: &Op) -> Result<Self::Task, AllocError>
+        ensures { IfOk result (IsTask self.now op.now) };
+
+    /// What it makes of the operator of the node over old kids, of which it made the new ones.
     fn at<S: Store, L: Ledger>(
         &self,
         alloc: Global,
         store: &mut S,
-        op: &Op,
+        id: Id,
+        task: Self::Task,
         old: &[Id],
         new: &[Id],
         steps: &mut Steps<L>,
     ) -> Result<Id, ApplyFault>
         requires ready { IsReady self.now (S.trees store.old) }
+        requires known { IsId (S.trees store.old) id }
+        requires task { IsTask self.now (root (tree (S.trees store.old) id)) task }
         requires old { All (IsId (S.trees store.old)) old.now }
         requires new { All (IsId (S.trees store.old)) new.now }
-        requires fits { Fits op.now (sorts_at (S.trees store.old) new.now) }
-        ensures ok { IfOk result (IsResult (MakesAt (job self.now (S.trees store.old)) op.now (kid_trees (S.trees store.old) old.now) (kid_trees (S.trees store.old) new.now)) (S.trees store.new)) }
-        ensures none { result ≡ Err NotAdmissible → HasNone (MakesAt (job self.now (S.trees store.old)) op.now (kid_trees (S.trees store.old) old.now) (kid_trees (S.trees store.old) new.now)) }
+        requires fits { Fits (root (tree (S.trees store.old) id)) (sorts_at (S.trees store.old) new.now) }
+        ensures ok { IfOk result (IsResult (MakesAt (job self.now (S.trees store.old)) (root (tree (S.trees store.old) id)) (kid_trees (S.trees store.old) old.now) (kid_trees (S.trees store.old) new.now)) (S.trees store.new)) }
+        ensures none { result ≡ Err NotAdmissible → HasNone (MakesAt (job self.now (S.trees store.old)) (root (tree (S.trees store.old) id)) (kid_trees (S.trees store.old) old.now) (kid_trees (S.trees store.old) new.now)) }
         ensures grows { S.grows store.old store.new }
         ensures cost { IsTrue S.unique → steps.new ≤ steps.old + looks (job self.now (S.trees store.old)) };
 

@@ -12,6 +12,7 @@ ghost use Rattle.dlk_sequent.specs.Substitutions.{pairs_at, AreKnownPairs};
 ghost use Rattle.dlk_subst.specs.Results.{IsResult, HasNone, args_at};
 ghost use Rattle.dlk_subst.specs.Rows.{SubstRow, substituting};
 ghost use Rattle.dlk_memo.specs.Binders.{AllowsBelow};
+ghost use Rattle.dlk_memo.specs.Tasks.{items_of, IsTaskAt};
 ghost use Rattle.dlk_memo.specs.Looks.{subtrees, replacement_subtrees, distinct_count};
 ghost use Rattle.dlk_memo.specs.Rules.{AreReadyArgs, AreReadyPairs, ready_pairs_kept, pairs_same, subst_allows, any_occurs, may_occur};
 ghost use Rattle.dlk_sequent.specs.declared.fault.ApplyFault.TheVariants.{NotAdmissible};
@@ -23,8 +24,10 @@ use crate::rule::Rule;
 use crate::walk::run;
 use dlk_sequent::{ApplyFault, Pair};
 use dlk_store::{Id, Steps, Store};
-use dlk_subst::{Effect, Scope, effect_at, is_admissible, keep_admissible, splice_at};
-use dlk_tree::Op;
+use dlk_subst::{
+    Captures, Effect, Scope, captures_of, effect_at, is_admissible, keep_like, splice_at,
+};
+use dlk_tree::{Items, Op};
 use std::alloc::{AllocError, Global};
 use std::sync::ledger::Ledger;
 
@@ -32,6 +35,25 @@ use std::sync::ledger::Ledger;
 #[derive(Drop)]
 pub(crate) struct Substituting<'a> {
     pub pairs: &'a [Pair],
+}
+
+/// What a substitution does at a node.
+#[derive(Drop)]
+pub(crate) struct Task {
+    /// The items of a system, which are spliced.
+    pub items: Option<Items>,
+    pub effect: Effect,
+    pub captures: Captures,
+}
+
+/// The items, if the operator is a system.
+fn items_of(op: &Op) -> Result<Option<Items>, AllocError>
+    ensures { IfOk result (λ i. i ≡ items_of op.now) }
+{
+    match op {
+        Op::System(items) => Ok(Some(items.clone()?)),
+        _ => Ok(None),
+    }
 }
 
 /// So many pairs are asked for at most, and in trees of so many nodes at least: then asking costs little beside a walk.
@@ -110,6 +132,10 @@ fn plug_in<S: Store, L: Ledger>(
 }
 
 impl Rule for Substituting<'_> {
+    type Task = Task;
+
+    ghost IsTask = { λ r op task. IsTaskAt r.pairs.now op task };
+
     ghost Job = { List TreePair };
 
     ghost job = { λ r trees. pairs_at trees r.pairs.now };
@@ -149,23 +175,37 @@ impl Rule for Substituting<'_> {
         }
     }
 
+    fn task(&self, op: &Op) -> Result<Task, AllocError> {
+        Ok(Task {
+            items: items_of(op)?,
+            effect: effect_at(self.pairs, op),
+            captures: captures_of(op)?,
+        })
+    }
+
     fn at<S: Store, L: Ledger>(
         &self,
         alloc: Global,
         store: &mut S,
-        op: &Op,
+        id: Id,
+        task: Task,
         old: &[Id],
         new: &[Id],
         steps: &mut Steps<L>,
     ) -> Result<Id, ApplyFault> {
-        if let Op::System(items) = op {
-            return splice_at(alloc, store, self.pairs, items.items(), old, new, steps);
+        let Task {
+            items: found,
+            effect,
+            captures,
+        } = task;
+        if let Some(system) = found {
+            return splice_at(alloc, store, self.pairs, system.items(), old, new, steps);
         }
-        match effect_at(self.pairs, op) {
+        match effect {
             Effect::Gives(by) => Ok(by),
             Effect::Plugs(by) => plug_in(alloc, store, new, by, steps),
             Effect::Fills(by) => fill_admissible(alloc, store, self.pairs, by, old, new, steps),
-            Effect::Stays => keep_admissible(alloc, store, self.pairs, op, old, new),
+            Effect::Stays => keep_like(alloc, store, self.pairs, id, captures, old, new),
         }
     }
 }

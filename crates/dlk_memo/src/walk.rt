@@ -1,7 +1,7 @@
 //! A walk by a rule, with a table of results.
 ghost use Rattle.std.specs.Prelude.{◌≡◌, ◌+◌, ◌*◌, ◌≤◌, ◌⊎◌, IsTrue, IfOk, OnOk, OnErr, All, Err, None, Some, length, false};
 ghost use Rattle.dlk_tree.specs.Table.{Fits};
-ghost use Rattle.dlk_tree.specs.Trees.{node, size};
+ghost use Rattle.dlk_tree.specs.Trees.{node, root, size};
 ghost use Rattle.dlk_store.specs.Stores.{IsId, tree, kid_trees, sorts_at};
 ghost use Rattle.dlk_subst.specs.Results.{IsResult, HasNone};
 ghost use Rattle.dlk_memo.specs.Looks.{subtrees, distinct_count};
@@ -13,12 +13,11 @@ use crate::results::Results;
 use crate::rule::Rule;
 use dlk_sequent::ApplyFault;
 use dlk_store::{Id, Steps, Store};
-use dlk_tree::Op;
 use std::alloc::Global;
 use std::sync::ledger::Ledger;
 
-/// The root of a tree that has no entry, as a copy, unless the rule makes nothing of it. Each look pays for a new entry, whatever
-/// comes of it.
+/// What the rule is to do at the root of a tree that has no entry, and a copy of the kids, unless the rule makes nothing of it. Each
+/// look pays for a new entry, whatever comes of it.
 #[inline(never)]
 fn open<S: Store, L: Ledger, R: Rule>(
     alloc: Global,
@@ -27,13 +26,14 @@ fn open<S: Store, L: Ledger, R: Rule>(
     id: Id,
     done: &mut Results,
     steps: &mut Steps<L>,
-) -> Result<(Op, Kids), ApplyFault>
+) -> Result<(R::Task, Kids), ApplyFault>
     requires ready { R.IsReady rule.now (S.trees store.now) }
     requires known { IsId (S.trees store.now) id }
     requires absent { found done.old id ≡ None }
-    ensures tree { IfOk result (λ r. tree (S.trees store.now) id ≡ node r.0 (kid_trees (S.trees store.now) r.1)) }
+    ensures tree { IfOk result (λ r. tree (S.trees store.now) id ≡ node (root (tree (S.trees store.now) id)) (kid_trees (S.trees store.now) r.1)) }
+    ensures task { IfOk result (λ r. R.IsTask rule.now (root (tree (S.trees store.now) id)) r.0) }
     ensures kids { IfOk result (λ r. All (IsId (S.trees store.now)) r.1) }
-    ensures allowed { IfOk result (λ r. R.Allows (R.job rule.now (S.trees store.now)) r.0 (kid_trees (S.trees store.now) r.1)) }
+    ensures allowed { IfOk result (λ r. R.Allows (R.job rule.now (S.trees store.now)) (root (tree (S.trees store.now) id)) (kid_trees (S.trees store.now) r.1)) }
     ensures none { result ≡ Err NotAdmissible → HasNone (R.Makes (R.job rule.now (S.trees store.now)) (tree (S.trees store.now) id)) }
     ensures opened { OnOk result (Opened done.old done.new id steps.old steps.new) }
     ensures err { OnErr result (Opened done.old done.new id steps.old steps.new ⊎ Unopened done.old done.new steps.old steps.new) }
@@ -45,30 +45,33 @@ fn open<S: Store, L: Ledger, R: Rule>(
         return Err(ApplyFault::NotAdmissible);
     }
     let kids = Kids::from_slice(alloc, node.kids)?;
-    let op = node.op.clone()?;
-    Ok((op, kids))
+    let task = rule.task(node.op)?;
+    Ok((task, kids))
 }
 
-/// What the rule makes of the operator over old kids, of which it made the new ones. It is the result of the id from now on.
+/// What the rule makes of the operator of the node over old kids, of which it made the new ones. It is the result of the id from now
+/// on.
 #[inline(never)]
 fn conclude<S: Store, L: Ledger, R: Rule>(
     alloc: Global,
     store: &mut S,
     rule: &R,
     id: Id,
-    op: &Op,
+    task: R::Task,
     old: &[Id],
     new: &[Id],
     done: &mut Results,
     steps: &mut Steps<L>,
 ) -> Result<Id, ApplyFault>
     requires ready { R.IsReady rule.now (S.trees store.old) }
+    requires known { IsId (S.trees store.old) id }
+    requires task { R.IsTask rule.now (root (tree (S.trees store.old) id)) task }
     requires old { All (IsId (S.trees store.old)) old.now }
     requires new { All (IsId (S.trees store.old)) new.now }
-    requires fits { Fits op.now (sorts_at (S.trees store.old) new.now) }
+    requires fits { Fits (root (tree (S.trees store.old) id)) (sorts_at (S.trees store.old) new.now) }
     requires once { HasEachOnce done.old }
-    ensures ok { IfOk result (IsResult (R.MakesAt (R.job rule.now (S.trees store.old)) op.now (kid_trees (S.trees store.old) old.now) (kid_trees (S.trees store.old) new.now)) (S.trees store.new)) }
-    ensures none { result ≡ Err NotAdmissible → HasNone (R.MakesAt (R.job rule.now (S.trees store.old)) op.now (kid_trees (S.trees store.old) old.now) (kid_trees (S.trees store.old) new.now)) }
+    ensures ok { IfOk result (IsResult (R.MakesAt (R.job rule.now (S.trees store.old)) (root (tree (S.trees store.old) id)) (kid_trees (S.trees store.old) old.now) (kid_trees (S.trees store.old) new.now)) (S.trees store.new)) }
+    ensures none { result ≡ Err NotAdmissible → HasNone (R.MakesAt (R.job rule.now (S.trees store.old)) (root (tree (S.trees store.old) id)) (kid_trees (S.trees store.old) old.now) (kid_trees (S.trees store.old) new.now)) }
     ensures grows { S.grows store.old store.new }
     ensures put { IfOk result (λ made. Puts done.old done.new id (Some made)) }
     ensures err { OnErr result (done.new ≡ done.old) }
@@ -76,7 +79,7 @@ fn conclude<S: Store, L: Ledger, R: Rule>(
     ensures once { HasEachOnce done.new }
     ensures cost { IsTrue S.unique → steps.new ≤ steps.old + R.looks (R.job rule.now (S.trees store.old)) }
 {
-    let made = rule.at(alloc, store, op, old, new, steps)?;
+    let made = rule.at(alloc, store, id, task, old, new, steps)?;
     done.finish(id, made)?;
     Ok(made)
 }
@@ -110,7 +113,7 @@ fn walk<S: Store, L: Ledger, R: Rule>(
     if let Some(known) = done.find(id) {
         return known.ok_or(ApplyFault::NotAdmissible);
     }
-    let (op, old) = open(alloc, store, rule, id, done, steps)?;
+    let (task, old) = open(alloc, store, rule, id, done, steps)?;
     let kids = old.as_slice();
     let mut new = Kids::new();
     for kid in kids {
@@ -122,7 +125,7 @@ fn walk<S: Store, L: Ledger, R: Rule>(
         store,
         rule,
         id,
-        &op,
+        task,
         kids,
         new.as_slice(),
         done,

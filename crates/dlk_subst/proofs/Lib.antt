@@ -10,3 +10,4 @@ pub mod Splicing
 pub mod Systems
 pub mod Effects
 pub mod Unchanged
+pub mod Dots

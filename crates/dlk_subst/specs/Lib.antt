@@ -6,3 +6,4 @@ pub mod Effects
 pub mod Splices
 pub mod Counts
 pub mod Looked
+pub mod DotEffects

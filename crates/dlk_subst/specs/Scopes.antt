@@ -10,6 +10,8 @@ use Rattle.dlk_store.specs.declared.Id.{Id}
 use Rattle.dlk_store.specs.Stores.{IsId, tree}
 use Rattle.dlk_subst.specs.declared.scope.Scope.{Scope}
 use Rattle.dlk_subst.specs.declared.scope.Scope.TheVariants.{Nothing, Every, Only, BoundBy}
+use Rattle.dlk_subst.specs.declared.scope.Captures.{Captures}
+use Rattle.dlk_subst.specs.declared.scope.Captures.TheVariants as Captures'
 
 -- the variables of a scope
 abbrev pub scope_set : List Tree → Scope → Var → Bool
@@ -30,27 +32,40 @@ abbrev pub first_scope : List Id → Scope
 first_scope [] = Nothing
 first_scope (id ∷ ids) = BoundBy id
 
--- the scope of an operator over its new kids, of which this is the node
+-- what an operator captures, as far as it tells without its kids
+abbrev pub captures_of : Op → Captures
+captures_of Op'.Diff = Captures'.Every
+captures_of Op'.DiffF = Captures'.Every
+captures_of (Op'.Predicational s) = Captures'.Every
+captures_of (Op'.Forall x) = Captures'.Only (plain x)
+captures_of (Op'.Exists x) = Captures'.Only (plain x)
+captures_of Op'.Box = Captures'.FirstInLater
+captures_of Op'.Dia = Captures'.FirstInLater
+captures_of Op'.Seq = Captures'.FirstInLater
+captures_of Op'.Loop = Captures'.FirstInAll
+captures_of (Op'.System items) = Captures'.Itself
+captures_of _ = Captures'.Nothing
+
+-- its scope over its new kids, of which this is the node
+abbrev pub scope_by : Captures → List Id → Id → Scope
+scope_by Captures'.Nothing new made = Nothing
+scope_by Captures'.Every new made = Every
+scope_by (Captures'.Only x) new made = Only x
+scope_by Captures'.FirstInLater new made = first_scope new
+scope_by Captures'.FirstInAll new made = first_scope new
+scope_by Captures'.Itself new made = BoundBy made
+
 abbrev pub scope_of : Op → List Id → Id → Scope
-scope_of Op'.Diff new made = Every
-scope_of Op'.DiffF new made = Every
-scope_of (Op'.Predicational s) new made = Every
-scope_of (Op'.Forall x) new made = Only (plain x)
-scope_of (Op'.Exists x) new made = Only (plain x)
-scope_of Op'.Box new made = first_scope new
-scope_of Op'.Dia new made = first_scope new
-scope_of Op'.Seq new made = first_scope new
-scope_of Op'.Loop new made = first_scope new
-scope_of (Op'.System items) new made = BoundBy made
-scope_of _ new made = Nothing
+scope_of op new made = scope_by (captures_of op) new made
 
 abbrev pub later_ids : List Id → List Id
 later_ids [] = []
 later_ids (id ∷ ids) = ids
 
 -- the kids in which it captures
+abbrev pub reach_by : Captures → List Id → List Id
+reach_by Captures'.FirstInLater old = later_ids old
+reach_by _ old = old
+
 abbrev pub reach_of : Op → List Id → List Id
-reach_of Op'.Box old = later_ids old
-reach_of Op'.Dia old = later_ids old
-reach_of Op'.Seq old = later_ids old
-reach_of _ old = old
+reach_of op old = reach_by (captures_of op) old

@@ -9,7 +9,7 @@ mod seen;
 mod splice;
 
 pub use dlk_sequent::{ApplyFault, Pair};
-pub use pairs::{Effect, effect_at, is_admissible, keep_admissible};
-pub use plug::{is_clear, plug_at};
-pub use scope::Scope;
+pub use pairs::{Effect, effect_at, is_admissible, keep_admissible, keep_like};
+pub use plug::{DotEffect, dot_effect_at, is_clear, plug_at, plug_like};
+pub use scope::{Captures, Scope, captures_of};
 pub use splice::splice_at;

@@ -1,6 +1,7 @@
 //! The pairs of a substitution: what it does at an operator, and what is admissible.
 ghost use Rattle.std.specs.Prelude.{◌≡◌, ◌↔◌, ◌&&◌, IsTrue, IfOk, All, Err};
 ghost use Rattle.dlk_tree.specs.Table.{kind_row, Fits};
+ghost use Rattle.dlk_tree.specs.Trees.{root};
 ghost use Rattle.dlk_tree.specs.Statics.{free};
 ghost use Rattle.dlk_tree.specs.Occurs.{any_has, has_symbol};
 ghost use Rattle.dlk_store.specs.Stores.{IsId, tree, kid_trees, sorts_at};
@@ -8,11 +9,11 @@ ghost use Rattle.dlk_calculus.specs.Captures.{AreApart, Stays};
 ghost use Rattle.dlk_calculus.specs.Subst.{IsAdmissible};
 ghost use Rattle.dlk_sequent.specs.Substitutions.{pairs_at, AreKnownPairs};
 ghost use Rattle.dlk_subst.specs.Results.{IsResult, HasNone};
-ghost use Rattle.dlk_subst.specs.Scopes.{scope_set, IsKnownScope};
+ghost use Rattle.dlk_subst.specs.Scopes.{scope_set, IsKnownScope, captures_of, scope_by, reach_by};
 ghost use Rattle.dlk_subst.specs.Effects.{found, effect_of};
 ghost use Rattle.dlk_sequent.specs.declared.fault.ApplyFault.TheVariants.{NotAdmissible};
 
-use crate::scope::{Scope, is_apart, reach, scope_of};
+use crate::scope::{Captures, Scope, captures_of, is_apart};
 use dlk_sequent::{ApplyFault, Pair};
 use dlk_store::{Id, Store};
 use dlk_tree::{Op, Sym, kind_row, same_sym};
@@ -100,6 +101,25 @@ pub fn is_admissible<S: Store>(store: &S, pairs: &[Pair], scope: &Scope, kids: &
     true
 }
 
+/// Whether what is captured, where `made` is the node over the new kids, is admissible for those kids of before in which it is captured.
+fn admits<S: Store>(
+    store: &S,
+    pairs: &[Pair],
+    captures: Captures,
+    made: Id,
+    old: &[Id],
+    new: &[Id],
+) -> bool
+    requires pairs { AreKnownPairs (S.trees store.now) pairs.now }
+    requires scope { IsKnownScope (S.trees store.now) (scope_by captures new.now made) }
+    requires kids { All (IsId (S.trees store.now)) (reach_by captures old.now) }
+    ensures { IsTrue result ↔ IsAdmissible (pairs_at (S.trees store.now) pairs.now) (scope_set (S.trees store.now) (scope_by captures new.now made)) (kid_trees (S.trees store.now) (reach_by captures old.now)) }
+{
+    let reached = captures.reach(old);
+    let scope = captures.scope(new, made);
+    is_admissible(store, pairs, &scope, reached)
+}
+
 /// The operator over new kids, where what it captures is admissible for those kids of before in which it is captured.
 pub fn keep_admissible<S: Store>(
     alloc: Global,
@@ -118,8 +138,36 @@ pub fn keep_admissible<S: Store>(
     ensures grows { S.grows store.old store.new }
 {
     let made = store.make(alloc, op.clone()?, new)?;
-    let scope = scope_of(op, new, made)?;
-    if is_admissible(store, pairs, &scope, reach(op, old)) {
+    let captures = captures_of(op)?;
+    if admits(store, pairs, captures, made, old, new) {
+        Ok(made)
+    } else {
+        Err(ApplyFault::NotAdmissible)
+    }
+}
+
+/// The node `like` over new kids, where what its operator captures is admissible for those kids of before in which it is captured.
+pub fn keep_like<S: Store>(
+    alloc: Global,
+    store: &mut S,
+    pairs: &[Pair],
+    like: Id,
+    captures: Captures,
+    old: &[Id],
+    new: &[Id],
+) -> Result<Id, ApplyFault>
+    requires pairs { AreKnownPairs (S.trees store.old) pairs.now }
+    requires like { IsId (S.trees store.old) like }
+    requires captures { captures ≡ captures_of (root (tree (S.trees store.old) like)) }
+    requires old { All (IsId (S.trees store.old)) old.now }
+    requires new { All (IsId (S.trees store.old)) new.now }
+    requires fits { Fits (root (tree (S.trees store.old) like)) (sorts_at (S.trees store.old) new.now) }
+    ensures ok { IfOk result (IsResult (Stays (IsAdmissible (pairs_at (S.trees store.old) pairs.now)) (root (tree (S.trees store.old) like)) (kid_trees (S.trees store.old) old.now) (kid_trees (S.trees store.old) new.now)) (S.trees store.new)) }
+    ensures none { result ≡ Err NotAdmissible → HasNone (Stays (IsAdmissible (pairs_at (S.trees store.old) pairs.now)) (root (tree (S.trees store.old) like)) (kid_trees (S.trees store.old) old.now) (kid_trees (S.trees store.old) new.now)) }
+    ensures grows { S.grows store.old store.new }
+{
+    let made = store.make_like(alloc, like, new)?;
+    if admits(store, pairs, captures, made, old, new) {
         Ok(made)
     } else {
         Err(ApplyFault::NotAdmissible)

@@ -3,7 +3,7 @@ ghost use Rattle.std.specs.Prelude.{◌≡◌, ◌↔◌, IsTrue, IfOk};
 ghost use Rattle.dlk_tree.specs.Statics.{free};
 ghost use Rattle.dlk_store.specs.Stores.{IsId, tree};
 ghost use Rattle.dlk_calculus.specs.Captures.{AreApart};
-ghost use Rattle.dlk_subst.specs.Scopes.{scope_set, IsKnownScope, first_scope, scope_of, reach_of};
+ghost use Rattle.dlk_subst.specs.Scopes.{scope_set, IsKnownScope, first_scope, captures_of, scope_by, reach_by};
 
 use dlk_store::{Id, Store};
 use dlk_tree::{Op, Var};
@@ -19,16 +19,31 @@ pub enum Scope {
     BoundBy(Id),
 }
 
-/// What the operator captures, where `made` is its node over these kids.
-pub(crate) fn scope_of(op: &Op, new: &[Id], made: Id) -> Result<Scope, AllocError>
-    ensures { IfOk result (λ s. s ≡ scope_of op.now new.now made) }
+/// What an operator captures, as far as it tells without its kids.
+#[derive(Drop)]
+pub enum Captures {
+    Nothing,
+    Every,
+    Only(Var),
+    /// What the first kid binds, in the kids behind it.
+    FirstInLater,
+    /// What the first kid binds, in each kid.
+    FirstInAll,
+    /// What the node itself binds.
+    Itself,
+}
+
+/// What the operator captures.
+pub fn captures_of(op: &Op) -> Result<Captures, AllocError>
+    ensures { IfOk result (λ c. c ≡ captures_of op.now) }
 {
     Ok(match op {
-        Op::Diff | Op::DiffF | Op::Predicational(_) => Scope::Every,
-        Op::Forall(x) | Op::Exists(x) => Scope::Only(Var::plain(x.clone()?)),
-        Op::Box | Op::Dia | Op::Seq | Op::Loop => bound_by_first(new),
-        Op::System(_) => Scope::BoundBy(made),
-        _ => Scope::Nothing,
+        Op::Diff | Op::DiffF | Op::Predicational(_) => Captures::Every,
+        Op::Forall(x) | Op::Exists(x) => Captures::Only(Var::plain(x.clone()?)),
+        Op::Box | Op::Dia | Op::Seq => Captures::FirstInLater,
+        Op::Loop => Captures::FirstInAll,
+        Op::System(_) => Captures::Itself,
+        _ => Captures::Nothing,
     })
 }
 
@@ -41,16 +56,31 @@ fn bound_by_first(new: &[Id]) -> Scope
     }
 }
 
-/// The kids in which the operator captures.
-pub(crate) fn reach<'a>(op: &Op, old: &'a [Id]) -> &'a [Id]
-    ensures { result.now ≡ reach_of op.now old.now }
-{
-    match op {
-        Op::Box | Op::Dia | Op::Seq => match old.split_first() {
-            Some((_, later)) => later,
-            None => old,
-        },
-        _ => old,
+impl Captures {
+    /// The variables, where `made` is the operator's node over these kids.
+    pub(crate) fn scope(self, new: &[Id], made: Id) -> Scope
+        ensures { result ≡ scope_by self new.now made }
+    {
+        match self {
+            Captures::Nothing => Scope::Nothing,
+            Captures::Every => Scope::Every,
+            Captures::Only(x) => Scope::Only(x),
+            Captures::FirstInLater | Captures::FirstInAll => bound_by_first(new),
+            Captures::Itself => Scope::BoundBy(made),
+        }
+    }
+
+    /// The kids in which they are captured.
+    pub(crate) fn reach<'a>(&self, old: &'a [Id]) -> &'a [Id]
+        ensures { result.now ≡ reach_by self.now old.now }
+    {
+        match self {
+            Captures::FirstInLater => match old.split_first() {
+                Some((_, later)) => later,
+                None => old,
+            },
+            _ => old,
+        }
     }
 }
 

@@ -1,6 +1,7 @@
 use Rattle.std.proofs.Common.{◌+◌, ◌≤◌, refl, sym, ap, subst, ◌∙◌, get_or, arith, rules}
 use Rattle.std.specs.Prelude.{All, IsTrue}
-use Rattle.dlk_tree.specs.Trees.{node, size}
+use Rattle.dlk_tree.specs.declared.op.Op.{Op}
+use Rattle.dlk_tree.specs.Trees.{Tree, node, root, size}
 use Rattle.dlk_store.specs.declared.Id.{Id}
 use Rattle.dlk_store.specs.Stores.{IsId, kid_trees, tree}
 use Rattle.dlk_store.specs.Kids.{Keeps-trans}
@@ -19,29 +20,30 @@ returns-then-not-may_change-clause-spends g t c =
     spends_none g.S.Store.unique (1 + g.R.Rule.looks (g.R.Rule.job c.args.rule.now first)) (tree first c.args.id) first c.args.done.now c.args.steps.now
     c.requires.once
 
-pub returns-in_err-op-clause-spends : goal.returns-in_err-op-clause-spends
-returns-in_err-op-clause-spends g t c =
+pub returns-in_err-task-clause-spends : goal.returns-in_err-task-clause-spends
+returns-in_err-task-clause-spends g t c =
     let first = g.S.Store.trees c.args.store.now in
     spends_failed g.S.Store.unique (g.R.Rule.looks (g.R.Rule.job c.args.rule.now first)) (tree first c.args.id) first c.args.done.now c.open.new.done
-    c.args.id c.args.steps.now c.open.new.steps c.requires.known refl c.in_err-op.ensures.once c.in_err-op.ensures.err
+    c.args.id c.args.steps.now c.open.new.steps c.requires.known refl c.in_err-task.ensures.once c.in_err-task.ensures.err
 
-pub returns-in_err-op-clause-none : goal.returns-in_err-op-clause-none
-returns-in_err-op-clause-none g t c e =
+pub returns-in_err-task-clause-none : goal.returns-in_err-task-clause-none
+returns-in_err-task-clause-none g t c e =
     c.open.ensures.none
-    (handed_on c.open.result c.from_residual.result c.in_err-op.field-0.0 NotAdmissible c.in_err-op.was c.from_residual.ensures.1 e)
+    (handed_on c.open.result c.from_residual.result c.in_err-task.field-0.0 NotAdmissible c.in_err-task.was c.from_residual.ensures.1 e)
 
 pub loop-kid-init : goal.loop-kid-init
 loop-kid-init g t c =
     let first = g.S.Store.trees c.args.store.now in
     let job = g.R.Rule.job c.args.rule.now first in
     let at = c.as_slice-kids.ensures in
-    let seen = c.in_ok-op.ensures in
+    let op = root (tree first c.args.id) in
+    let seen = c.in_ok-task.ensures in
     record {
       grows = g.met.S.Store.grows_refl c.args.store.now;
       made =
           rw c.new-new.ensures
-          (Made-none (g.R.Rule.Makes job) first c.args.id c.in_ok-op.op c.as_slice-kids.result.now
-          (seen.tree ∙ ap (λ l. node c.in_ok-op.op (kid_trees first l)) (sym at)) (subst (All (IsId first)) (sym at) seen.kids));
+          (Made-none (g.R.Rule.Makes job) first c.args.id op c.as_slice-kids.result.now
+          (seen.tree ∙ ap (λ l. node op (kid_trees first l)) (sym at)) (subst (All (IsId first)) (sym at) seen.kids));
       right =
           right_begun (g.R.Rule.Makes job) first c.args.done.now c.open.new.done c.args.id seen.opened.put c.requires.known c.requires.right;
       opens = opens_itself c.open.new.done;
@@ -60,10 +62,11 @@ walk-requires g t c κs within =
     let ready = g.met.R.Rule.ready_kept c.args.rule.now first ts m.kept c.requires.ready in
     let right = subst (λ j. IsRight (g.R.Rule.Makes j) ts c.loop-kid.done) (sym job) c.loop-kid.invariant.right in
     let above =
-    kid_above first ts c.args.done.now c.open.new.done c.loop-kid.done c.args.id c.in_ok-op.ensures.opened.put c.loop-kid.invariant.opens m.kept
+    kid_above first ts c.args.done.now c.open.new.done c.loop-kid.done c.args.id c.in_ok-task.ensures.opened.put c.loop-kid.invariant.opens m.kept
     c.requires.known c.requires.right.known (size (tree ts (get_or c.as_slice-kids.result.now c.loop-kid.kid-index d))) less c.requires.above in
     let once = c.loop-kid.invariant.spends.once in
-    (omega (arith, less), (search rules, (search rules, (search rules, (ready, (next_known m d c.loop-kid-test.true, (right, (above, once))))))))
+    let there = next_known m d c.loop-kid-test.true in
+    (omega (arith, less), (search rules, (search rules, (search rules, (search rules, (ready, (there, (right, (above, once)))))))))
 
 pub returns-in_err-made-clause-none : goal.returns-in_err-made-clause-none
 returns-in_err-made-clause-none g t c e =
@@ -88,7 +91,7 @@ returns-in_err-made-clause-spends g t c =
     let m = c.loop-kid.invariant.made in
     let job = g.met.R.Rule.job_kept c.args.rule.now first ts m.kept c.requires.ready in
     let keeps = g.met.S.Store.grows_keeps c.loop-kid.store c.walk.new.store c.walk.ensures.grows in
-    kid_failed m g.S.Store.unique (g.R.Rule.looks (g.R.Rule.job c.args.rule.now first)) us keeps c.requires.known c.loop-kid-test.true c.in_ok-op.ensures.opened
+    kid_failed m g.S.Store.unique (g.R.Rule.looks (g.R.Rule.job c.args.rule.now first)) us keeps c.requires.known c.loop-kid-test.true c.in_ok-task.ensures.opened
     c.loop-kid.invariant.spends (subst (λ j. Spends g.S.Store.unique (1 + g.R.Rule.looks j)
     (tree ts (get_or c.as_slice-kids.result.now c.loop-kid.kid-index (record { 0 = 0 }))) us c.loop-kid.done c.walk.new.done c.loop-kid.steps c.walk.new.steps)
     job c.walk.ensures.spends)
@@ -105,7 +108,7 @@ returns-in_err-new-clause-spends g t c =
     let m = c.loop-kid.invariant.made in
     let job = g.met.R.Rule.job_kept c.args.rule.now first ts m.kept c.requires.ready in
     let keeps = g.met.S.Store.grows_keeps c.loop-kid.store c.walk.new.store c.walk.ensures.grows in
-    kid_failed m g.S.Store.unique (g.R.Rule.looks (g.R.Rule.job c.args.rule.now first)) us keeps c.requires.known c.loop-kid-test.true c.in_ok-op.ensures.opened
+    kid_failed m g.S.Store.unique (g.R.Rule.looks (g.R.Rule.job c.args.rule.now first)) us keeps c.requires.known c.loop-kid-test.true c.in_ok-task.ensures.opened
     c.loop-kid.invariant.spends (subst (λ j. Spends g.S.Store.unique (1 + g.R.Rule.looks j)
     (tree ts (get_or c.as_slice-kids.result.now c.loop-kid.kid-index (record { 0 = 0 }))) us c.loop-kid.done c.walk.new.done c.loop-kid.steps c.walk.new.steps)
     job c.walk.ensures.spends)
@@ -140,6 +143,14 @@ conclude-requires-clause-ready g t c =
     g.met.R.Rule.ready_kept c.args.rule.now (g.S.Store.trees c.args.store.now) (g.S.Store.trees c.loop-kid.store) c.loop-kid.invariant.made.kept
     c.requires.ready
 
+pub conclude-requires-clause-known : goal.conclude-requires-clause-known
+conclude-requires-clause-known g t c = let kept = c.loop-kid.invariant.made.kept in omega (arith, kept.known, c.requires.known)
+
+pub conclude-requires-clause-task : goal.conclude-requires-clause-task
+conclude-requires-clause-task g t c =
+    let same = c.loop-kid.invariant.made.kept.same c.args.id c.requires.known in
+    subst (λ (o : Op). g.R.Rule.IsTask c.args.rule.now o c.in_ok-task.task) (sym (ap root same)) c.in_ok-task.ensures.task
+
 pub conclude-requires-clause-old : goal.conclude-requires-clause-old
 conclude-requires-clause-old g t c =
     let m = c.loop-kid.invariant.made in
@@ -152,7 +163,8 @@ conclude-requires-clause-new g t c =
 pub conclude-requires-clause-fits : goal.conclude-requires-clause-fits
 conclude-requires-clause-fits g t c =
     let first = g.S.Store.trees c.args.store.now in
-    rw c.as_slice.ensures
+    let same = c.loop-kid.invariant.made.kept.same c.args.id c.requires.known in
+    rw (c.as_slice.ensures, ap root same)
     (made_fit c.loop-kid.invariant.made (omega arith) (λ t u well p. g.met.R.Rule.sort_kept c.args.rule.now first t u c.requires.ready well p)
     (g.met.S.Store.well_made c.args.store.now) c.requires.known)
 
@@ -167,8 +179,11 @@ returns-clause-ok g t c =
     let job = g.met.R.Rule.job_kept c.args.rule.now first ts m.kept c.requires.ready in
     let olds = same_kids m c.as_slice-kids.result.now _ refl refl in
     let news = ap (kid_trees ts) c.as_slice.ensures in
+    let same = ap root (m.kept.same c.args.id c.requires.known) in
+    let row = λ (t : Tree) (o : Op). g.R.Rule.MakesAt (g.R.Rule.job c.args.rule.now ts) o (kid_trees ts c.as_slice-kids.result.now)
+    (kid_trees ts c.as_slice.result.now) t in
     result_weaker _ _ (g.S.Store.trees c.conclude.new.store) c.conclude.result
-    (λ id t stands p. node_made g.met.R.Rule.rows m job (omega arith) olds news t p) c.conclude.ensures.ok
+    (λ id t stands p. node_made g.met.R.Rule.rows m job (omega arith) olds news t (subst (row t) same p)) c.conclude.ensures.ok
 
 pub returns-clause-none : goal.returns-clause-none
 returns-clause-none g t c e =
@@ -178,7 +193,10 @@ returns-clause-none g t c e =
     let job = g.met.R.Rule.job_kept c.args.rule.now first ts m.kept c.requires.ready in
     let olds = same_kids m c.as_slice-kids.result.now _ refl refl in
     let news = ap (kid_trees ts) c.as_slice.ensures in
-    node_without g.met.R.Rule.rows m job (omega arith) olds news (c.conclude.ensures.none e)
+    let same = ap root (m.kept.same c.args.id c.requires.known) in
+    let row = λ (t : Tree) (o : Op). g.R.Rule.MakesAt (g.R.Rule.job c.args.rule.now ts) o (kid_trees ts c.as_slice-kids.result.now)
+    (kid_trees ts c.as_slice.result.now) t in
+    node_without g.met.R.Rule.rows m job (omega arith) olds news (λ t p. c.conclude.ensures.none e t (subst (row t) (sym same) p))
 
 pub returns-clause-grows : goal.returns-clause-grows
 returns-clause-grows g t c =
@@ -193,17 +211,20 @@ returns-clause-right g t c =
     let job = g.met.R.Rule.job_kept c.args.rule.now first ts m.kept c.requires.ready in
     let olds = same_kids m c.as_slice-kids.result.now _ refl refl in
     let news = ap (kid_trees ts) c.as_slice.ensures in
+    let same = ap root (m.kept.same c.args.id c.requires.known) in
+    let row = λ (t : Tree) (o : Op). g.R.Rule.MakesAt (g.R.Rule.job c.args.rule.now ts) o (kid_trees ts c.as_slice-kids.result.now)
+    (kid_trees ts c.as_slice.result.now) t in
     let makes = g.R.Rule.Makes (g.R.Rule.job c.args.rule.now first) in
     let keeps = g.met.S.Store.grows_keeps c.loop-kid.store c.conclude.new.store c.conclude.ensures.grows in
     let all = Keeps-trans m.kept keeps in
     let ok = result_weaker _ (makes (tree first c.args.id)) us c.conclude.result
-    (λ id t stands p. node_made g.met.R.Rule.rows m job (omega arith) olds news t p) c.conclude.ensures.ok in
+    (λ id t stands p. node_made g.met.R.Rule.rows m job (omega arith) olds news t (subst (row t) same p)) c.conclude.ensures.ok in
     right_concluded makes us c.loop-kid.done c.conclude.new.done c.args.id (tree first c.args.id) c.conclude.result c.conclude.ensures.put
     (omega (arith, all.known, c.requires.known)) (all.same c.args.id c.requires.known) ok (right_kept makes keeps c.loop-kid.done c.loop-kid.invariant.right)
 
 pub returns-clause-opens : goal.returns-clause-opens
 returns-clause-opens g t c =
-    opens_concluded c.args.done.now c.open.new.done c.loop-kid.done c.conclude.new.done c.args.id c.conclude.result c.in_ok-op.ensures.opened.put
+    opens_concluded c.args.done.now c.open.new.done c.loop-kid.done c.conclude.new.done c.args.id c.conclude.result c.in_ok-task.ensures.opened.put
     c.loop-kid.invariant.opens c.conclude.ensures.put
 
 pub returns-clause-spends : goal.returns-clause-spends
@@ -226,5 +247,5 @@ returns-clause-spends g t c =
     c.conclude.ensures.once loop in
     let more : IsTrue u → c.conclude.new.steps ≤ c.loop-kid.steps + looks =
     λ h. subst (λ j. c.conclude.new.steps ≤ c.loop-kid.steps + g.R.Rule.looks j) job (c.conclude.ensures.cost h) in
-    spends_opened u looks root us c.args.done.now c.open.new.done c.args.id c.args.steps.now c.open.new.steps known is c.in_ok-op.ensures.opened
+    spends_opened u looks root us c.args.done.now c.open.new.done c.args.id c.args.steps.now c.open.new.steps known is c.in_ok-task.ensures.opened
     c.conclude.new.done c.loop-kid.steps c.conclude.new.steps finished more

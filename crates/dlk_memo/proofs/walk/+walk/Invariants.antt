@@ -1,5 +1,5 @@
 use Rattle.std.proofs.Common.{◌+◌}
-use Rattle.dlk_tree.specs.Trees.{size}
+use Rattle.dlk_tree.specs.Trees.{root, size}
 use Rattle.dlk_store.specs.Stores.{tree}
 use Rattle.dlk_store.proofs.Made.{Made}
 use Rattle.dlk_memo.specs.Tables.{IsRight, OpensNone, Spends}
@@ -16,7 +16,7 @@ invariant-loop-kid g l =
     let job = g.R.Rule.job l.fn.rule before in
     record {
       grows : g.S.Store.grows l.fn.store l.store;
-      made : Made (g.R.Rule.Makes job) before now l.fn.id l.op l.kids l.new l.kid-index;
+      made : Made (g.R.Rule.Makes job) before now l.fn.id (root (tree before l.fn.id)) l.kids l.new l.kid-index;
       right : IsRight (g.R.Rule.Makes job) now l.done;
       opens : OpensNone l.initial.done l.done;
       spends : Spends g.S.Store.unique (1 + g.R.Rule.looks job) (tree before l.fn.id) now l.initial.done l.done l.initial.steps l.steps;

@@ -1,57 +1,62 @@
-use Rattle.std.proofs.Common.{sym, subst}
+use Rattle.std.proofs.Common.{sym, ap, subst}
 use Rattle.dlk_tree.specs.Trees.{node}
 use Rattle.dlk_store.specs.Stores.{StandsFor, kid_trees}
 use Rattle.dlk_calculus.specs.Plug.{IsClear}
 use Rattle.dlk_subst.specs.Results.{args_at}
-use Rattle.dlk_subst.specs.Scopes.{scope_set}
+use Rattle.dlk_subst.specs.Scopes.{scope_set, scope_by, reach_by}
 use Rattle.dlk_subst.specs.Growth.{known_kept}
 use Rattle.dlk_subst.specs.Growth.{args_kept}
 use Rattle.dlk_subst.proofs.Captured.{made_scope, made_known, reached_trees, reached_known}
 use Rattle.dlk_subst.proofs.Staying.{stays, stays_not}
 use Rattle.dlk_subst.proofs.plug.keep_clear.Goals as goal
 
-pub is_clear-requires-clause-args : goal.is_clear-requires-clause-args
-is_clear-requires-clause-args g c =
+pub clears-requires-clause-args : goal.clears-requires-clause-args
+clears-requires-clause-args g c =
     known_kept (g.met.S.Store.grows_keeps c.args.store.now c.make.new.self c.in_ok-made.ensures.grows) c.args.args.now c.requires.args
 
-pub is_clear-requires-clause-scope : goal.is_clear-requires-clause-scope
-is_clear-requires-clause-scope g c =
+pub clears-requires-clause-scope : goal.clears-requires-clause-scope
+clears-requires-clause-scope g c =
     let kept = g.met.S.Store.grows_keeps c.args.store.now c.make.new.self c.in_ok-made.ensures.grows in
     made_known kept c.args.op.now c.in_ok-clone.field-0 c.in_ok-clone.ensures.cases c.args.new.now c.requires.new c.in_ok-made.made
-    c.in_ok-made.ensures.made c.in_ok-scope.scope c.in_ok-scope.ensures c.requires.fits
+    c.in_ok-made.ensures.made (scope_by c.in_ok-captures.captures c.args.new.now c.in_ok-made.made) (ap (λ k. scope_by k c.args.new.now
+    c.in_ok-made.made) c.in_ok-captures.ensures) c.requires.fits
 
-pub is_clear-requires-clause-kids : goal.is_clear-requires-clause-kids
-is_clear-requires-clause-kids g c =
+pub clears-requires-clause-kids : goal.clears-requires-clause-kids
+clears-requires-clause-kids g c =
     reached_known (g.met.S.Store.grows_keeps c.args.store.now c.make.new.self c.in_ok-made.ensures.grows) c.args.op.now c.args.old.now
-    c.reach.result.now c.requires.old c.reach.ensures
+    (reach_by c.in_ok-captures.captures c.args.old.now) c.requires.old (ap (λ k. reach_by k c.args.old.now) c.in_ok-captures.ensures)
 
-pub returns-then-is_clear-clause-ok : goal.returns-then-is_clear-clause-ok
-returns-then-is_clear-clause-ok g c =
+pub returns-then-clears-clause-ok : goal.returns-then-clears-clause-ok
+returns-then-clears-clause-ok g c =
     let before = g.S.Store.trees c.args.store.now in
     let now = g.S.Store.trees c.make.new.self in
     let op = c.args.op.now in
     let kept = g.met.S.Store.grows_keeps c.args.store.now c.make.new.self c.in_ok-made.ensures.grows in
     let set = made_scope kept op c.in_ok-clone.field-0 c.in_ok-clone.ensures.cases c.args.new.now c.requires.new c.in_ok-made.made c.in_ok-made.ensures.made
-    c.in_ok-scope.scope c.in_ok-scope.ensures in
-    let kids = reached_trees kept op c.args.old.now c.reach.result.now c.requires.old c.reach.ensures in
+    (scope_by c.in_ok-captures.captures c.args.new.now c.in_ok-made.made) (ap (λ k. scope_by k c.args.new.now c.in_ok-made.made) c.in_ok-captures.ensures) in
+    let kids = reached_trees kept op c.args.old.now (reach_by c.in_ok-captures.captures c.args.old.now) c.requires.old (ap (λ k. reach_by k
+    c.args.old.now) c.in_ok-captures.ensures) in
     let stands =
     subst (λ o. StandsFor now c.in_ok-made.made (node o (kid_trees before c.args.new.now))) (sym c.in_ok-clone.ensures.cases) c.in_ok-made.ensures.made in
-    let holds = subst (λ args. IsClear args (scope_set now c.in_ok-scope.scope) (kid_trees now c.reach.result.now))
-    (args_kept kept c.args.args.now c.requires.args) (c.is_clear.ensures.0 c.if-is_clear.true) in
+    let holds = subst (λ args. IsClear args (scope_set now (scope_by c.in_ok-captures.captures c.args.new.now c.in_ok-made.made)) (kid_trees now
+    (reach_by c.in_ok-captures.captures c.args.old.now)))
+    (args_kept kept c.args.args.now c.requires.args) (c.clears.ensures.0 c.if-clears.true) in
     stays (IsClear (args_at before c.args.args.now)) op (kid_trees before c.args.old.now) (kid_trees before c.args.new.now) set kids now
     c.in_ok-made.made stands holds
 
-pub returns-clause-none : goal.returns-clause-none
-returns-clause-none g c e =
+pub returns-else-clears-clause-none : goal.returns-else-clears-clause-none
+returns-else-clears-clause-none g c e =
     let before = g.S.Store.trees c.args.store.now in
     let now = g.S.Store.trees c.make.new.self in
     let op = c.args.op.now in
     let kept = g.met.S.Store.grows_keeps c.args.store.now c.make.new.self c.in_ok-made.ensures.grows in
     let set = made_scope kept op c.in_ok-clone.field-0 c.in_ok-clone.ensures.cases c.args.new.now c.requires.new c.in_ok-made.made c.in_ok-made.ensures.made
-    c.in_ok-scope.scope c.in_ok-scope.ensures in
-    let kids = reached_trees kept op c.args.old.now c.reach.result.now c.requires.old c.reach.ensures in
+    (scope_by c.in_ok-captures.captures c.args.new.now c.in_ok-made.made) (ap (λ k. scope_by k c.args.new.now c.in_ok-made.made) c.in_ok-captures.ensures) in
+    let kids = reached_trees kept op c.args.old.now (reach_by c.in_ok-captures.captures c.args.old.now) c.requires.old (ap (λ k. reach_by k
+    c.args.old.now) c.in_ok-captures.ensures) in
     stays_not (IsClear (args_at before c.args.args.now)) op (kid_trees before c.args.old.now) (kid_trees before c.args.new.now) set kids
     (λ holds.
-    let yes = c.is_clear.ensures.1 (subst (λ args. IsClear args (scope_set now c.in_ok-scope.scope) (kid_trees now c.reach.result.now))
+    let yes = c.clears.ensures.1 (subst (λ args. IsClear args (scope_set now (scope_by c.in_ok-captures.captures c.args.new.now c.in_ok-made.made))
+    (kid_trees now (reach_by c.in_ok-captures.captures c.args.old.now)))
     (sym (args_kept kept c.args.args.now c.requires.args)) holds) in
     cc)
