@@ -99,7 +99,7 @@ class SaysTheSame(unittest.TestCase):
         for _ in range(200):
             made, written = drawn.pair(["x", "y"], 3)
             solving = z3.Solver()
-            solving.set("timeout", 2000)
+            solving.set("rlimit", 150_000)
             solving.add(solver.IN_Z3.formula(made) != written)
             said = solving.check()
             self.assertNotEqual(said, z3.sat, (made, written))
@@ -116,7 +116,7 @@ class SaysTheSame(unittest.TestCase):
             answers = []
             for asked in (made, expressions.opened(made)):
                 solving = z3.Solver()
-                solving.set("timeout", 2000)
+                solving.set("rlimit", 150_000)
                 solving.add(solver.IN_Z3.formula(asked))
                 answers.append(str(solving.check()))
             self.assertNotEqual({*answers}, {"sat", "unsat"}, made)
