@@ -2,7 +2,7 @@
 
     python3 bench/refute.py [--count N] [--seed N] [--seconds S] [--out FILE] [--only PART] [--whole]
 
-The models are those of examples/gallery, tutorial, recipes and search. Broken is one place of one of them, drawn by the seed: a sign is turned, an
+The models are those of examples/gallery, tutorial and recipes, which are all true. Broken is one place of one of them, drawn by the seed: a sign is turned, an
 assumption is dropped, a test or a domain loses a part, or a bound is moved by 1, so that more is allowed or more is promised. N models are broken
 (140). Each search has S seconds of the clock (5). --out writes a line of JSON for each, with the model. --only takes the models whose name has PART
 in it. --whole leaves the breaking out.
@@ -30,7 +30,7 @@ sys.setrecursionlimit(60_000)
 from dlkt import reader  # noqa: E402  (behind the path)
 from dlkt.trees import ROWS, Tree, Trees, text  # noqa: E402
 
-FOLDERS = ("gallery", "tutorial", "recipes", "search")
+FOLDERS = ("gallery", "tutorial", "recipes")
 LOOKED_AT = TOP / "bench" / "data" / "refuted_not.json"
 AIM, AIM_SECONDS = 0.7, 0.2
 KINDS = ("sign", "assumption", "test", "bound")
