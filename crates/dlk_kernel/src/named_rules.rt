@@ -35,11 +35,7 @@ impl Model for NamedRules {
 }
 
 /// The row of the axiomatic rule of this name, made now. `None` comes exactly where no such rule has the name.
-fn make_row<S: Store>(
-    alloc: Global,
-    store: &mut S,
-    name: &Name,
-) -> Result<Option<Row>, StoreFault>
+fn make_row<S: Store>(alloc: Global, store: &mut S, name: &Name) -> Result<Option<Row>, StoreFault>
     ensures rule { IfOk result (Finds (λ (r : AxiomaticRule) row. IsRowOf (S.trees store.new) r row) (rule_named name.now)) }
     ensures grows { S.grows store.old store.new }
 {

@@ -26,7 +26,7 @@ returns-clause-named g c =
     let found = rw c.in-Some-2.is at c.in_ok-row.ensures.rule in
     let same : c.in_ok-name.name ≡ c.args.name.now = search rules in
     let one : IsRowNamed new c.in_ok-name.name c.in_ok-kept.kept =
-        rw (same, c.in_ok-kept.ensures) (record { found = found.0; named = found.1; is_row = found.2 }) in
+    rw (same, c.in_ok-kept.ensures) (record { found = found.0; named = found.1; is_row = found.2 }) in
     rw (c.in_ok-push.ensures.items, c.self.view_is)
     (All-push (λ (n : NamedRule). IsRowNamed new n.name n.row) c.args.self.now (record { name = c.in_ok-name.name; row = c.in_ok-kept.kept })
     (named_rows_kept _ _ keeps c.args.self.now c.requires) one)
