@@ -120,8 +120,8 @@ pub number_read : (text : List ℕ) (place n : ℕ) → DigitsRead text place n 
 number_read text place n read ends some first =
     let long : length (take place text) ≡ place = omega (arith, length-take place text, read.within) in
     let all = list_all-from_AllPass is_digit (take place text) (λ k d lt.
-        let before : k < place = omega (arith, long, lt) in
-        ap is_digit (get_or-take place text k d before) ∙ ap is_digit (get_or_default text k d 0 (omega (arith, read.within))) ∙ read.digits k before) in
+    let before : k < place = omega (arith, long, lt) in
+    ap is_digit (get_or-take place text k d before) ∙ ap is_digit (get_or_default text k d 0 (omega (arith, read.within))) ∙ read.digits k before) in
     let head : get_or (take place text) 0 0 ≢ 48 = λ e. first (sym (get_or-take place text 0 0 some) ∙ e) in
     rw (take_all (length text - place) (drop place text) (omega (arith, length-drop place text)))
     (record {
