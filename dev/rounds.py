@@ -10,11 +10,10 @@ so is what changes no function's body, but a definition, a type or a constant.
 import os
 import re
 import shutil
-import subprocess
 from pathlib import Path
 from typing import Iterator, NamedTuple
 
-from checkout import changes_in
+from checkout import changes_in, ran_in
 
 FUNCTION = re.compile(r"^( *)(?:pub(?:\([a-z]+\))? )?(?:const )?fn (\w+)")
 VERDICT = re.compile(r"fn (\S+): (.*)")
@@ -127,10 +126,7 @@ class Crate:
         if self.seed.is_dir():
             shutil.rmtree(self.work, ignore_errors=True)
             linked(self.seed, self.work)
-        run = subprocess.run(
-            self.call, cwd=self.folder, stdin=subprocess.DEVNULL, stdout=subprocess.PIPE, stderr=subprocess.STDOUT, text=True, errors="replace", check=False
-        )
-        return run.stdout
+        return ran_in(self.folder, *self.call)[1]
 
     def prove(self) -> str:
         """Proves the crate as it stands, and keeps that for the rounds. It gives why that can't be, or nothing."""

@@ -17,7 +17,7 @@ from typing import TYPE_CHECKING, Any, Callable, Sequence
 
 from dlkt.archive import is_archive
 from dlkt.leaves import NOT_ASKED, POWER, WAY_OUT, listed
-from dlkt.program import TERM_BEGINS, Refused, add_options, numbered, one_line, program_of, put_at, read_bytes, refuse_bad_output, shown
+from dlkt.program import TERM_BEGINS, Refused, add_options, numbered, one_line, program_of, put_at, read_bytes, refuse_bad_output, say, shown
 from dlkt.verdict import NOTHING_KNOWN, OPEN, REFUTED, Fault, Guard, Hint, Kind, Leaf, Maker, Options, Piece, Proof, Source, Spot, Verdict
 from dlkt.verdict import counted, is_said_of, verdict_on
 
@@ -171,14 +171,9 @@ def goal_object(goal: str) -> dict[str, Any]:
     return {"text": goal, "formulas": [{"place": place, "formula": formula} for place, formula in [*left, *right]]}
 
 
-def place_object(place: Spot | None) -> dict[str, Any] | None:
-    """A place."""
-    return place._asdict() if place else None
-
-
 def maker_object(made: Maker) -> dict[str, Any]:
     """A word that made something."""
-    return {"word": made.word, "place": place_object(made.place)}
+    return {"word": made.word, "place": made.place._asdict()}
 
 
 def leaf_object(leaf: Leaf) -> dict[str, Any]:
@@ -189,7 +184,7 @@ def leaf_object(leaf: Leaf) -> dict[str, Any]:
 def fault_object(fault: Fault) -> dict[str, Any]:
     """A refusal."""
     goals = [goal_object(goal) for goal in fault.goals]
-    told = {"text": fault.text, "file": fault.file, "place": place_object(fault.place), "why": fault.why, "goals": goals}
+    told = {"text": fault.text, "file": fault.file, "place": fault.place and fault.place._asdict(), "why": fault.why, "goals": goals}
     return {**told, "parts": fault.parts, "count": fault.count_of_goals}
 
 
@@ -211,19 +206,12 @@ def as_object(verdict: Verdict, put: str | None = None) -> dict[str, Any]:
         "linked": [lemma._asdict() for lemma in proof.lemmas] if proof else [],
         "leaves": [leaf_object(leaf) for leaf in verdict.leaves], "solvers": verdict.solvers,
         "guard": guard_object(verdict.guard) if verdict.guard else None,
-        "hints": [{"place": place_object(hint.place), "text": hint.text} for hint in verdict.hints],
+        "hints": [{"place": hint.place._asdict(), "text": hint.text} for hint in verdict.hints],
         "verified": verdict.is_verified, "reasons": verdict.reasons, "rests_on": verdict.rests_on, "status": verdict.status,
     }
 
 
 # The command
-
-def say_lines(lines: Sequence[str]) -> None:
-    """Prints lines at once."""
-    for line in lines:
-        print(line)
-    sys.stdout.flush()
-
 
 def source_of(name: str) -> Source:
     """The bytes of a file."""
@@ -260,7 +248,7 @@ def not_found(options: argparse.Namespace, found: "NotFound") -> int:
     if options.json:
         say_without_verdict(options, outcome, [said, *found.reasons], status)
     else:
-        say_lines([*found.reasons, f"{outcome or 'not verified'}: {said}"])
+        say([*found.reasons, f"{outcome or 'not verified'}: {said}"])
     return status
 
 
@@ -281,7 +269,7 @@ class Saying:
         if self.is_silent:
             return
         try:
-            say_lines(lines_of(piece))
+            say(lines_of(piece))
         except BrokenPipeError as fault:
             if not self.has_files:
                 raise
@@ -300,8 +288,8 @@ def once(options: argparse.Namespace) -> int:
     model, settings, proof = source_of(options.file), options_of(options), proof_of(options)
     if not isinstance(proof, Source):
         return not_found(options, proof)
-    say = Saying(options)
-    verdict = verdict_on(model, proof, settings, say)
+    saying = Saying(options)
+    verdict = verdict_on(model, proof, settings, saying)
     put = options.output if verdict.term else None
     if put is not None:
         put_at(verdict.term, put)
@@ -309,11 +297,11 @@ def once(options: argparse.Namespace) -> int:
         from dlkt.commands.page import written  # it takes a while
 
         written(verdict, options.page, settings.program)
-    say.end()
+    saying.end()
     if options.json:
         print(json.dumps(as_object(verdict, put)), flush=True)
     else:
-        say_lines([last_line(verdict)])
+        say([last_line(verdict)])
     return verdict.status
 
 
@@ -326,12 +314,12 @@ def on_archive(options: argparse.Namespace) -> int:
     from dlkt.archive import proving, verifying  # they need the package lark
 
     limits = proving.Limits(program_of(options.dlk), SEARCH_SECONDS, options.seconds)
-    found = verifying.verdicts_on(options.file, options.entry, limits, (lambda lines: None) if options.json else say_lines)
+    found = verifying.verdicts_on(options.file, options.entry, limits, (lambda lines: None) if options.json else say)
     if options.json:
         told = [(one, {"entry": one.name, "status": one.status, "said": one.line}) for one in found]
         print(json.dumps([{**object, "verdict": as_object(one.verdict, None) if one.verdict else None} for one, object in told]), flush=True)
     else:
-        say_lines([one.line for one in found])
+        say([one.line for one in found])
     return verifying.worst(found)
 
 
