@@ -163,16 +163,12 @@ def verdicts(said: str) -> dict[str, str]:
     return {it[1]: it[2] for it in map(VERDICT.fullmatch, said.split("\n")) if it}
 
 
-def module_of(file: str) -> str:
-    """The path of a file's module, as it stands in the path of a function."""
-    return "::".join(part for part in Path(file).with_suffix("").parts[1:] if part not in ("lib", "main", "mod"))
-
-
 def own_failure(said: str, body: Body) -> Come | None:
     """Where and why the proof of a function that the body changes fails by itself, or nothing."""
     lines = said.split("\n")
+    modules = {it.file: "::".join(part for part in Path(it.file).with_suffix("").parts[1:] if part not in ("lib", "main", "mod")) for it in body.changes}
     for path, verdict in verdicts(said).items():
-        changes = [it for it in body.changes if path.endswith(f"::{it.function}") and f"::{module_of(it.file)}::" in f"{path}::"]
+        changes = [it for it in body.changes if path.endswith(f"::{it.function}") and f"::{modules[it.file]}::" in f"{path}::"]
         if not changes or verdict == "proved" or verdict.startswith("no proof: it calls"):
             continue
         notes = [it for it in map(NOTE.match, lines) if it and any(it[1] == of.file and int(it[2]) in of.lines for of in changes) and "not proved" in it[3]]

@@ -53,8 +53,10 @@ class Refusal(NamedTuple):
 
 
 class Position(NamedTuple):
-    """A byte of a text as people count: line and column from 1, the line itself, and a line with a caret below the place."""
+    """A place in a file: the byte, line and column from 1, the line itself, and a line with a caret below the place."""
 
+    file: str
+    byte: int
     line: int
     column: int
     source: str
@@ -180,16 +182,16 @@ def add_options(parser: argparse.ArgumentParser, *names: str, **other: Any) -> N
         parser.add_argument(name, **{**OPTIONS[name], **other})
 
 
-def position(text: str | bytes, byte: int) -> Position:
-    """Where a byte of a text stands. The text is bytes, or a string of one byte a character."""
+def position(text: str | bytes, byte: int, file: str = "") -> Position:
+    """Where a byte of a text stands, which is that of a file. The text is bytes, or a string of one byte a character."""
     data = text if isinstance(text, bytes) else text.encode("latin-1", "replace")
-    byte = min(byte, len(data))
-    begin = data.rfind(b"\n", 0, byte) + 1
-    end = data.find(b"\n", byte)
-    before = data[begin:byte].decode("utf-8", "replace")
+    at = min(byte, len(data))
+    begin = data.rfind(b"\n", 0, at) + 1
+    end = data.find(b"\n", at)
+    before = data[begin:at].decode("utf-8", "replace")
     source = data[begin : end if end >= 0 else len(data)].decode("utf-8", "replace").rstrip("\r")
     blank = "".join("\t" if letter == "\t" else " " for letter in before)
-    return Position(data.count(b"\n", 0, byte) + 1, len(before) + 1, source, blank + "^")
+    return Position(file, byte, data.count(b"\n", 0, at) + 1, len(before) + 1, source, blank + "^")
 
 
 def at_top(text: str, marks: Sequence[str]) -> list[tuple[int, str]]:

@@ -21,7 +21,7 @@ from typing import Callable, Iterator, Mapping, NamedTuple, Sequence, Union
 
 from dlkt import hints, leaves
 from dlkt.failing import state_at
-from dlkt.program import INPUT_REFUSED, Answer, Refused, answer, complaint_of, has_report, position, printed_report, refusal_in
+from dlkt.program import INPUT_REFUSED, Answer, Position, Refused, answer, complaint_of, has_report, position, printed_report, refusal_in
 from dlkt.solvers import Solvers, version_of
 from dlkt.terms import Lemma, lemmas_in, readable
 from dlkt.words import lines_of, runs_in, words_of_lines
@@ -63,17 +63,6 @@ class Options(NamedTuple):
     old_term: Source | None = None
 
 
-class Spot(NamedTuple):
-    """A place in a file: the byte, line and column from 1, the line itself, and a line with a caret below the place."""
-
-    file: str
-    byte: int
-    line: int
-    column: int
-    source: str
-    caret: str
-
-
 class Proof(NamedTuple):
     """A proof that the program takes: how it ends, how many lines its term has, the goals that are left, and the lemmas that are linked in."""
 
@@ -90,7 +79,7 @@ class Fault(NamedTuple):
     text: str
     file: str
     why: str
-    place: Spot | None
+    place: Position | None
     goals: Sequence[str] = ()
     parts: int | None = None
     count_of_goals: int | None = None
@@ -100,7 +89,7 @@ class Maker(NamedTuple):
     """A word of a strategy that made something, and its place."""
 
     word: str
-    place: Spot
+    place: Position
 
 
 class Leaf(NamedTuple):
@@ -125,7 +114,7 @@ class Guard(NamedTuple):
 class Hint(NamedTuple):
     """What looks wrong, and has no influence on the verdict."""
 
-    place: Spot
+    place: Position
     text: str
 
 
@@ -195,9 +184,9 @@ class Work:
         """A text of the program without the folder of the copies."""
         return text.replace(f"{self.folder}{os.sep}", "")
 
-    def place(self, source: Source, byte: int) -> Spot:
+    def place(self, source: Source, byte: int) -> Position:
         """Where a byte of a file stands."""
-        return Spot(source.name, byte, *position(source.data, byte))
+        return position(source.data, byte, source.name)
 
     def fault(self, text: str) -> Fault:
         """What is known of a refusal."""

@@ -69,7 +69,8 @@ def joined(lines: Sequence[str]) -> str:
 
 def whole(ask: Ask, proof: Proof) -> str:
     """The next line, with those with which it goes on."""
-    lines = [ask(proof, prompt_of(proof))]
+    count = len(proof.goals())
+    lines = [ask(proof, "closed> " if proof.is_closed() else f"{count} goal{'s' * (count > 1)}> ")]
     while goes_on("\n".join(lines)):
         try:
             more = ask(proof, CONTINUED)
@@ -292,12 +293,6 @@ def asks_terminal() -> Ask:
         return line
 
     return ask
-
-
-def prompt_of(proof: Proof) -> str:
-    """What stands before a line."""
-    count = len(proof.goals())
-    return "closed> " if proof.is_closed() else f"{count} goal{'s' * (count > 1)}> "
 
 
 def asks_file(proof: Proof, before: str) -> str:

@@ -17,8 +17,8 @@ from typing import TYPE_CHECKING, Any, Callable, Sequence
 
 from dlkt.archive import is_archive
 from dlkt.leaves import NOT_ASKED, POWER, WAY_OUT, listed
-from dlkt.program import TERM_BEGINS, Refused, add_options, numbered, one_line, program_of, put_at, read_bytes, refuse_bad_output, say, shown
-from dlkt.verdict import NOTHING_KNOWN, OPEN, REFUTED, Fault, Guard, Hint, Kind, Leaf, Maker, Options, Piece, Proof, Source, Spot, Verdict
+from dlkt.program import TERM_BEGINS, Position, Refused, add_options, numbered, one_line, program_of, put_at, read_bytes, refuse_bad_output, say, shown
+from dlkt.verdict import NOTHING_KNOWN, OPEN, REFUTED, Fault, Guard, Hint, Kind, Leaf, Maker, Options, Piece, Proof, Source, Verdict
 from dlkt.verdict import counted, is_said_of, verdict_on
 
 if TYPE_CHECKING:
@@ -64,12 +64,12 @@ GUARD_WHY = {
 
 # Printing
 
-def at(place: Spot) -> str:
+def at(place: Position) -> str:
     """A place as editors read it."""
     return f"{one_line(place.file)}:{place.line}:{place.column}"
 
 
-def underlined(place: Spot) -> list[str]:
+def underlined(place: Position) -> list[str]:
     """The line of a place, or the part of a long one round it, and a caret below it."""
     begin = max(0, place.column - LONGEST // 2) if len(place.source) > LONGEST else 0
     return [f"    {place.source[begin : begin + LONGEST]}", f"    {place.caret[begin:]}"]
@@ -176,11 +176,6 @@ def maker_object(made: Maker) -> dict[str, Any]:
     return {"word": made.word, "place": made.place._asdict()}
 
 
-def leaf_object(leaf: Leaf) -> dict[str, Any]:
-    """A leaf."""
-    return {"leaf": leaf.number, "text": leaf.text, **leaf.said.as_object(), "made_by": [maker_object(made) for made in leaf.made_by]}
-
-
 def fault_object(fault: Fault) -> dict[str, Any]:
     """A refusal."""
     goals = [goal_object(goal) for goal in fault.goals]
@@ -198,13 +193,15 @@ def as_object(verdict: Verdict, put: str | None = None) -> dict[str, Any]:
     """A verdict as one object, with the name at which the term was put."""
     found, strategy = verdict.found, verdict.proof.name if verdict.kind is Kind.STRATEGY else None
     proof, fault = (found, None) if isinstance(found, Proof) else (None, found)
+    told = [(leaf, [maker_object(made) for made in leaf.made_by]) for leaf in verdict.leaves]
     return {
         "model": verdict.model.name, "proof": verdict.proof.name, "kind": verdict.kind, "strategy": strategy, "term": put,
         "outcome": verdict.outcome, "refusal": fault_object(fault) if fault else None,
         "lines": proof.lines if proof else None,
         "goals": [goal_object(goal) for goal in proof.goals] if proof else [],
         "linked": [lemma._asdict() for lemma in proof.lemmas] if proof else [],
-        "leaves": [leaf_object(leaf) for leaf in verdict.leaves], "solvers": verdict.solvers,
+        "leaves": [{"leaf": leaf.number, "text": leaf.text, **leaf.said.as_object(), "made_by": makers} for leaf, makers in told],
+        "solvers": verdict.solvers,
         "guard": guard_object(verdict.guard) if verdict.guard else None,
         "hints": [{"place": hint.place._asdict(), "text": hint.text} for hint in verdict.hints],
         "verified": verdict.is_verified, "reasons": verdict.reasons, "rests_on": verdict.rests_on, "status": verdict.status,
