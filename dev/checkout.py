@@ -5,6 +5,7 @@ its file, as the pairs before it have left that.
 """
 
 import hashlib
+import subprocess
 from pathlib import Path
 from typing import Iterable, Iterator, NamedTuple
 
@@ -66,6 +67,14 @@ def changes_in(folder: Path, edit: Path) -> Iterator[Change]:
 def changed(folder: Path, edit: Path) -> dict[str, str]:
     """The texts of the files that an edit makes of those below a folder."""
     return {it.file: it.before.replace(it.old, it.new) for it in changes_in(folder, edit)}
+
+
+def ran_in(folder: Path, *words: str) -> tuple[int, str]:
+    """How a run in a folder ends, and what it said."""
+    run = subprocess.run(
+        words, cwd=folder, stdin=subprocess.DEVNULL, stdout=subprocess.PIPE, stderr=subprocess.STDOUT, text=True, errors="replace", check=False
+    )
+    return run.returncode, run.stdout
 
 
 def sum_of(whole: str, folder: Path, paths: Iterable[Path]) -> str:

@@ -55,7 +55,7 @@ from typing import NamedTuple
 import consistent
 import rounds
 import tried as tried_file
-from checkout import TOP, Broken, changed, crates, sum_of, tell_faults, with_those_below
+from checkout import TOP, Broken, changed, crates, ran_in, sum_of, tell_faults, with_those_below
 
 FOLDERS = ("must-fail", "edits")
 SILENT = TOP / "dev" / "silent"
@@ -241,14 +241,6 @@ def told(crate: str, name: str, text: str) -> Tried:
         return Tried(crate, name, kind, where + (f", {reason[1]}" if reason else "") + only)
     kind = "NOT REFUSED" if text.startswith("NOT REFUSED") else "bad" if text.startswith("BAD EDIT") else "not tried"
     return Tried(crate, name, kind, "" if kind == "NOT REFUSED" else f": {text.partition(': ')[2]}")
-
-
-def ran_in(folder: Path, *words: str) -> tuple[int, str]:
-    """How a run in a folder ends, and what it said."""
-    run = subprocess.run(
-        words, cwd=folder, stdin=subprocess.DEVNULL, stdout=subprocess.PIPE, stderr=subprocess.STDOUT, text=True, errors="replace", check=False
-    )
-    return run.returncode, run.stdout
 
 
 def tried_by_gate(room: Path, names: list[str], jobs: int) -> Found:

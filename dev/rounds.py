@@ -10,11 +10,10 @@ so is what changes no function's body, but a definition, a type or a constant.
 import os
 import re
 import shutil
-import subprocess
 from pathlib import Path
 from typing import Iterator, NamedTuple
 
-from checkout import changes_in
+from checkout import changes_in, ran_in
 
 FUNCTION = re.compile(r"^( *)(?:pub(?:\([a-z]+\))? )?(?:const )?fn (\w+)")
 VERDICT = re.compile(r"fn (\S+): (.*)")
@@ -127,10 +126,7 @@ class Crate:
         if self.seed.is_dir():
             shutil.rmtree(self.work, ignore_errors=True)
             linked(self.seed, self.work)
-        run = subprocess.run(
-            self.call, cwd=self.folder, stdin=subprocess.DEVNULL, stdout=subprocess.PIPE, stderr=subprocess.STDOUT, text=True, errors="replace", check=False
-        )
-        return run.stdout
+        return ran_in(self.folder, *self.call)[1]
 
     def prove(self) -> str:
         """Proves the crate as it stands, and keeps that for the rounds. It gives why that can't be, or nothing."""
@@ -167,16 +163,12 @@ def verdicts(said: str) -> dict[str, str]:
     return {it[1]: it[2] for it in map(VERDICT.fullmatch, said.split("\n")) if it}
 
 
-def module_of(file: str) -> str:
-    """The path of a file's module, as it stands in the path of a function."""
-    return "::".join(part for part in Path(file).with_suffix("").parts[1:] if part not in ("lib", "main", "mod"))
-
-
 def own_failure(said: str, body: Body) -> Come | None:
     """Where and why the proof of a function that the body changes fails by itself, or nothing."""
     lines = said.split("\n")
+    modules = {it.file: "::".join(part for part in Path(it.file).with_suffix("").parts[1:] if part not in ("lib", "main", "mod")) for it in body.changes}
     for path, verdict in verdicts(said).items():
-        changes = [it for it in body.changes if path.endswith(f"::{it.function}") and f"::{module_of(it.file)}::" in f"{path}::"]
+        changes = [it for it in body.changes if path.endswith(f"::{it.function}") and f"::{modules[it.file]}::" in f"{path}::"]
         if not changes or verdict == "proved" or verdict.startswith("no proof: it calls"):
             continue
         notes = [it for it in map(NOTE.match, lines) if it and any(it[1] == of.file and int(it[2]) in of.lines for of in changes) and "not proved" in it[3]]

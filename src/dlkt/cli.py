@@ -14,7 +14,6 @@ from dlkt.program import INPUT_REFUSED, ended
 
 MOST_LEVELS = 60_000
 
-
 COMMANDS = {
     **{name: f"dlkt.commands.{name}" for name in ("verify", "auto", "refute")},
     "import": "dlkt.commands.import_",

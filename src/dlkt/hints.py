@@ -14,6 +14,7 @@ from dlkt.program import Name, Refused, answer, at_top, position, refusal_in, sp
 from dlkt.solvers import Solvers, Word
 from dlkt.strategies import Atom, Part
 from dlkt.trees import Tree, text as text_of
+from dlkt.words import Line
 
 MOST_SECONDS = 2.0  # for the question whether assumptions contradict each other
 LONGEST_LOOK = 1 << 18  # bytes of a model that is read for hints
@@ -22,8 +23,8 @@ COMMENT = re.compile(rb"/\*.*?\*/|//[^\n]*", re.DOTALL)
 TOKEN = re.compile(r"\\?[A-Za-z][A-Za-z0-9_]*")
 BRACKET = re.compile(r"\s*[({]")
 KEYWORDS = ("true", "false", "\\forall", "\\exists", "term", "invariant")
-# Functions that other provers know, and that are symbols like any other here.
-UNKNOWN_FUNCTIONS = ("abs", "min", "max")
+# Functions that other provers know, and that are symbols like any other here: how each is written out.
+UNKNOWN_FUNCTIONS = {"abs": "abs(x)<=k is -k<=x&x<=k", "min": "min(x,y)>=k is x>=k&y>=k", "max": "max(x,y)<=k is x<=k&y<=k"}
 ARCHIVE = re.compile(
     rb"\b(ArchiveEntry|Theorem|Lemma|Exercise|SharedDefinitions|Definitions|ProgramVariables|Problem|Tactic|Variables|Functions|End)\b\s*"
     rb"(?:\"|\.|\n|\r)"
@@ -34,10 +35,6 @@ OTHER_PROVERS = {
     "assignb": "step", "composeb": "step", "choiceb": "step", "testb": "step", "randomb": "step", "allR": "skolemR", "existsL": "skolemL",
     "diffInvariant": "dC and dI", "GV": "useAt(V,P)", "abstractionb": "useAt(V,P)", "solve": "useAt(DS,P)",
 }
-
-
-# A line of a term: its word, and what stands behind.
-Line = tuple[str, str]
 
 
 class Hint(NamedTuple):
@@ -187,13 +184,8 @@ def of_functions(model: bytes, tree: Part | None) -> Iterator[Hint]:
     for file, text, begin in texts:
         for name, byte in names_of(text, begin).symbols.items():
             if name in UNKNOWN_FUNCTIONS:
-                yield Hint(file, byte, said_of_function(name))
-
-
-def said_of_function(name: str) -> str:
-    """What a function of other provers is here."""
-    how = {"abs": "abs(x)<=k is -k<=x&x<=k", "min": "min(x,y)>=k is x>=k&y>=k", "max": "max(x,y)<=k is x<=k&y<=k"}[name]
-    return f"{name} is a symbol like any other, of which nothing is known: write it out, as {how}"
+                said = f"{name} is a symbol like any other, of which nothing is known: write it out, as {UNKNOWN_FUNCTIONS[name]}"
+                yield Hint(file, byte, said)
 
 
 def of_constants(program: str, path: Name, model: bytes, tree: Part) -> Iterator[Hint]:
@@ -236,14 +228,9 @@ def of_invariants(lines: Sequence[Line], words: Sequence[tuple[int, str] | None]
 
 # Texts that are no strategy
 
-def masked(text: str) -> str:
-    """The text of a strategy with blanks for what stands in comments and in quotes."""
-    return re.sub(r"/\*.*?\*/|\"[^\"]*\"", lambda found: re.sub(r"[^\n]", " ", found[0]), text, flags=re.DOTALL)
-
-
 def of_ends(text: str) -> Iterator[Hint]:
-    """Hints at a `;` behind which no part stands, and at comments of another kind."""
-    bare = masked(text)
+    """Hints at a `;` behind which no part stands, and at comments of another kind, but for what stands in comments and in quotes."""
+    bare = re.sub(r"/\*.*?\*/|\"[^\"]*\"", lambda found: re.sub(r"[^\n]", " ", found[0]), text, flags=re.DOTALL)
     for found in re.finditer(r";(?=\s*(?:[;,)|]|\Z))", bare):
         yield Hint("strategy", found.start(), "a `;` stands between two parts, and none follows here: leave it out")
     comment = bare.find("//")

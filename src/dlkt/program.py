@@ -12,7 +12,7 @@ import subprocess
 import sys
 import tempfile
 from pathlib import Path
-from typing import Any, Callable, NamedTuple, Sequence
+from typing import Any, Callable, Iterable, NamedTuple, Sequence
 
 ROOT = Path(__file__).resolve().parent.parent.parent
 BUILT = ROOT / "crates" / "dlk" / "out" / "dlk"
@@ -53,8 +53,10 @@ class Refusal(NamedTuple):
 
 
 class Position(NamedTuple):
-    """A byte of a text as people count: line and column from 1, the line itself, and a line with a caret below the place."""
+    """A place in a file: the byte, line and column from 1, the line itself, and a line with a caret below the place."""
 
+    file: str
+    byte: int
     line: int
     column: int
     source: str
@@ -151,6 +153,13 @@ def one_line(text: str) -> str:
     return "".join(letter if letter.isprintable() else letter.encode("unicode_escape").decode() for letter in text)
 
 
+def say(lines: Iterable[str]) -> None:
+    """Prints lines at once."""
+    for line in lines:
+        print(line)
+    sys.stdout.flush()
+
+
 def whole(text: str) -> int:
     """A whole number from 1 on, of a command line."""
     if not re.fullmatch(r"[1-9]\d{0,5}", text):
@@ -173,16 +182,16 @@ def add_options(parser: argparse.ArgumentParser, *names: str, **other: Any) -> N
         parser.add_argument(name, **{**OPTIONS[name], **other})
 
 
-def position(text: str | bytes, byte: int) -> Position:
-    """Where a byte of a text stands. The text is bytes, or a string of one byte a character."""
+def position(text: str | bytes, byte: int, file: str = "") -> Position:
+    """Where a byte of a text stands, which is that of a file. The text is bytes, or a string of one byte a character."""
     data = text if isinstance(text, bytes) else text.encode("latin-1", "replace")
-    byte = min(byte, len(data))
-    begin = data.rfind(b"\n", 0, byte) + 1
-    end = data.find(b"\n", byte)
-    before = data[begin:byte].decode("utf-8", "replace")
+    at = min(byte, len(data))
+    begin = data.rfind(b"\n", 0, at) + 1
+    end = data.find(b"\n", at)
+    before = data[begin:at].decode("utf-8", "replace")
     source = data[begin : end if end >= 0 else len(data)].decode("utf-8", "replace").rstrip("\r")
     blank = "".join("\t" if letter == "\t" else " " for letter in before)
-    return Position(data.count(b"\n", 0, byte) + 1, len(before) + 1, source, blank + "^")
+    return Position(file, byte, data.count(b"\n", 0, at) + 1, len(before) + 1, source, blank + "^")
 
 
 def at_top(text: str, marks: Sequence[str]) -> list[tuple[int, str]]:
@@ -241,15 +250,6 @@ def are_same_file(name: Name, other_name: Name) -> bool:
         return os.path.abspath(one) == os.path.abspath(other)
 
 
-def is_loop(path: Path) -> bool:
-    """Whether a name is that of a link that leads back to itself."""
-    try:
-        path.resolve()
-    except RuntimeError:
-        return True
-    return False
-
-
 def refuse_bad_output(target: str, inputs: Sequence[Name], begins: Sequence[bytes], kind: str) -> None:
     """Refuses an output that is an input, can't be written, or has something else in it than what it is to hold: a file of this kind begins in
     one of these ways."""
@@ -259,11 +259,13 @@ def refuse_bad_output(target: str, inputs: Sequence[Name], begins: Sequence[byte
     path = Path(target)
     if path.is_dir():
         raise Refused(f"{target}: is a directory")
-    if is_loop(path):
-        raise Refused(f"{target}: too many levels of symbolic links")
-    if not path.resolve().parent.is_dir():
+    try:
+        folder = path.resolve().parent
+    except RuntimeError:
+        raise Refused(f"{target}: too many levels of symbolic links") from None
+    if not folder.is_dir():
         raise Refused(f"{target}: there is no such folder")
-    if not os.access(path if path.exists() else path.resolve().parent, os.W_OK):
+    if not os.access(path if path.exists() else folder, os.W_OK):
         raise Refused(f"{target}: permission denied")
     if path.is_file():
         with path.open("rb") as file:

@@ -177,9 +177,8 @@ class Reader:
             end = self.closes()
             return Sequence(begin, end, (node,)) if isinstance(node, Atom) else node._replace(begin=begin, end=end)
         name = self.match(NAME)
-        if not self.sees("("):
+        if not self.take("("):
             return Atom(name.start(), name.end(), name[0], ())
-        self.need("(")
         arguments = [self.argument()]
         while self.take(","):
             arguments.append(self.argument())

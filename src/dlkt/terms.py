@@ -214,21 +214,12 @@ def step_of(place: int, line: str, readers: Readers) -> Step:
     return Step(number, place, word, rest)
 
 
-def readers_by_nodes(nodes: Nodes) -> Readers:
-    """Readers of trees by the numbers of these nodes."""
-    return Readers(lambda rest: sides_by_nodes(nodes, rest), lambda rest: pairs_by_nodes(nodes, rest), lambda rest: node_of_cut(nodes, rest))
-
-
-def readers_of_texts() -> Readers:
-    """Readers of trees by their texts, as lines of version 1 have them."""
-    trees = Trees()
-    return Readers(lambda rest: reader.sequent(rest, trees), lambda rest: reader.pairs(rest, trees), lambda rest: reader.formula(rest, trees))
-
-
 def read(data: str | bytes) -> Term:
     """The term of a file of either version. Refused at its first wrong line."""
-    lines, version, nodes, steps = lines_of(data), version_of(data), Nodes(), list[Step]()
-    readers = readers_by_nodes(nodes) if version == 2 else readers_of_texts()
+    lines, version, nodes, trees, steps = lines_of(data), version_of(data), Nodes(), Trees(), list[Step]()
+    by_nodes = Readers(lambda rest: sides_by_nodes(nodes, rest), lambda rest: pairs_by_nodes(nodes, rest), lambda rest: node_of_cut(nodes, rest))
+    by_texts = Readers(lambda rest: reader.sequent(rest, trees), lambda rest: reader.pairs(rest, trees), lambda rest: reader.formula(rest, trees))
+    readers = by_nodes if version == 2 else by_texts
     for place, line in enumerate(lines[version - 1 :], version):
         if line == END and steps:
             if place < len(lines):

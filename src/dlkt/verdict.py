@@ -21,7 +21,7 @@ from typing import Callable, Iterator, Mapping, NamedTuple, Sequence, Union
 
 from dlkt import hints, leaves
 from dlkt.failing import state_at
-from dlkt.program import INPUT_REFUSED, Answer, Refused, answer, complaint_of, has_report, position, printed_report, refusal_in
+from dlkt.program import INPUT_REFUSED, Answer, Position, Refused, answer, complaint_of, has_report, position, printed_report, refusal_in
 from dlkt.solvers import Solvers, version_of
 from dlkt.terms import Lemma, lemmas_in, readable
 from dlkt.words import lines_of, runs_in, words_of_lines
@@ -63,17 +63,6 @@ class Options(NamedTuple):
     old_term: Source | None = None
 
 
-class Spot(NamedTuple):
-    """A place in a file: the byte, line and column from 1, the line itself, and a line with a caret below the place."""
-
-    file: str
-    byte: int
-    line: int
-    column: int
-    source: str
-    caret: str
-
-
 class Proof(NamedTuple):
     """A proof that the program takes: how it ends, how many lines its term has, the goals that are left, and the lemmas that are linked in."""
 
@@ -90,7 +79,7 @@ class Fault(NamedTuple):
     text: str
     file: str
     why: str
-    place: Spot | None
+    place: Position | None
     goals: Sequence[str] = ()
     parts: int | None = None
     count_of_goals: int | None = None
@@ -100,7 +89,7 @@ class Maker(NamedTuple):
     """A word of a strategy that made something, and its place."""
 
     word: str
-    place: Spot
+    place: Position
 
 
 class Leaf(NamedTuple):
@@ -125,7 +114,7 @@ class Guard(NamedTuple):
 class Hint(NamedTuple):
     """What looks wrong, and has no influence on the verdict."""
 
-    place: Spot
+    place: Position
     text: str
 
 
@@ -167,7 +156,7 @@ class Work:
     def __init__(self, sources: tuple[Source, Source], options: Options, folder: Path, tell: Tell) -> None:
         self.model_source, self.proof_source = sources
         self.options, self.program, self.folder, self.tell = options, options.program, folder, tell
-        self.kind = options.kind or kind_of(self.proof_source.data)
+        self.kind, self.strategy = options.kind or kind_of(self.proof_source.data), self.proof_source.data.decode("latin-1")
         self.model, self.proof, self.term = (folder / name for name in ("model", "proof", "term"))
         self.model.write_bytes(self.model_source.data)
         self.proof.write_bytes(self.proof_source.data)
@@ -185,35 +174,31 @@ class Work:
         if said.status == INPUT_REFUSED and said.text.startswith("refused: "):
             return self.fault(said.text)
         if not has_report(said):
-            raise Refused(self.complaint(said))
+            raise Refused(self.without_folder(complaint_of(said)))
         self.report, found = said.text, printed_report(said)
         lemmas = lemmas_in(self.term.read_bytes()) if self.kind is Kind.TERM else []
         self.texts = found.leaves
         return Proof(Outcome.CLOSED if found.is_closed else Outcome.OPEN, found.lines, found.goals, lemmas)
 
-    def complaint(self, said: Answer) -> str:
-        """Why there is no report, without the names of the copies."""
-        return complaint_of(said).replace(f"{self.folder}{os.sep}", "")
+    def without_folder(self, text: str) -> str:
+        """A text of the program without the folder of the copies."""
+        return text.replace(f"{self.folder}{os.sep}", "")
 
-    def place(self, source: Source, byte: int) -> Spot:
+    def place(self, source: Source, byte: int) -> Position:
         """Where a byte of a file stands."""
-        return Spot(source.name, byte, *position(source.data, byte))
-
-    @cached_property
-    def strategy(self) -> str:
-        """The strategy, a character a byte."""
-        return self.proof_source.data.decode("latin-1")
+        return position(source.data, byte, source.name)
 
     def fault(self, text: str) -> Fault:
         """What is known of a refusal."""
-        first = text.split("\n", 1)[0].replace(f"{self.folder}{os.sep}", "")
+        first = self.without_folder(text.split("\n", 1)[0])
         is_model = re.match(r"refused: (too-long )?model\b", first)
         source = self.model_source if is_model else self.proof_source
         told = Fault(first, source.name, first.removeprefix("refused: "), None)
         line = re.match(r"refused: (?:line|other-conclusion) (\d+)", first)
         refusal = refusal_in(text)
         if line and self.kind is Kind.TERM:
-            return told._replace(place=self.place(source, beginning_of(source.data, int(line[1]))))
+            before = source.data.split(b"\n")[: int(line[1]) - 1]
+            return told._replace(place=self.place(source, sum(len(it) + 1 for it in before)))
         if refusal is None:
             return told
         told = told._replace(place=self.place(source, refusal.byte), why=refusal.why or refusal.what)
@@ -297,11 +282,6 @@ class Work:
             found += hints.of_invariants(self.lines, self.words, told)
         for hint in found:
             self.add(sources[hint.file], hint)
-
-
-def beginning_of(data: bytes, line: int) -> int:
-    """The byte at which a line begins."""
-    return sum(len(text) + 1 for text in data.split(b"\n")[: line - 1])
 
 
 def verdict_on(model: Source, proof: Source, options: Options, tell: Tell = lambda piece: None) -> Verdict:

@@ -146,18 +146,9 @@ class Sharing:
                 break
             times -= 1
             if goals != 1:
-                left, text = self.all_turns(body, times, goal, goals)
+                left, text = self.each([Repeat(body.begin, body.end, body, times)] * goals, goal, goals)
                 return left, "; ".join([*done, text] if text else done)
         return 1, "; ".join(done) or "nil"
-
-    def all_turns(self, body: Part, times: int, goal: int, goals: int) -> Done:
-        """So many turns on each of these goals."""
-        left, texts = 0, []
-        for _ in range(goals):
-            more, text = self.turns(body, times, goal + left)
-            left += more
-            texts.append(text)
-        return left, side_by_side(texts)
 
     def source(self, node: Part) -> str:
         """The text of a part as it is written."""
@@ -303,10 +294,7 @@ def shared(text: str, tree: Part, lines: list[Line], refuted: set[tuple[int, int
 
 def first_difference(one: str, other: str) -> int:
     """The number of the first line in which two terms differ."""
-    for number, (here, there) in enumerate(zip(one.split("\n"), other.split("\n")), 1):
-        if here != there:
-            return number
-    return 0
+    return next((number for number, (here, there) in enumerate(zip(one.split("\n"), other.split("\n")), 1) if here != there), 0)
 
 
 def failed_at(done: str, said: Answer) -> int:

@@ -26,10 +26,10 @@ from dlkt.commands.tree import UNTOLD, Drawing, Sequent, Table, Told, filled, pa
 from dlkt.commands.verify import source_of, why_refused, why_unguarded
 from dlkt.layout import WIDTH
 from dlkt.leaves import listed
-from dlkt.program import Refused, add_options, answer, has_report, position, program_of, report_of
+from dlkt.program import Position, Refused, add_options, answer, has_report, position, program_of, report_of
 from dlkt.strategies import Branch, Choice, Part
 from dlkt.terms import in_version_1
-from dlkt.verdict import Fault, Guard, Kind, Leaf, Options, Proof, Spot, Verdict, counted, verdict_on
+from dlkt.verdict import Fault, Guard, Kind, Leaf, Options, Proof, Verdict, counted, verdict_on
 from dlkt.words import Run, runs_in
 
 # Of how many runs of a word the goals are shown.
@@ -187,7 +187,7 @@ def rest_of(name: str, said: str) -> str:
     return f"<dt>{name}</dt><dd>{said}</dd>"
 
 
-def where(place: Spot) -> str:
+def where(place: Position) -> str:
     """A place, told to people who don't have the file's path."""
     return f"{Path(place.file).name}, line {place.line}, column {place.column}"
 

@@ -31,7 +31,7 @@ from typing import Callable, Iterable, Sequence
 
 from dlkt.layout import laid_out_goal
 from dlkt.leaves import exported_alone, listed
-from dlkt.program import INTERRUPTED, Refused, add_options, program_of
+from dlkt.program import INTERRUPTED, Refused, add_options, program_of, say
 from dlkt.search.finding import Options, expand_line
 from dlkt.search.sketches import is_sketch
 from dlkt.session import APPLY, Failure, Proof, as_typed, changes
@@ -69,7 +69,8 @@ def joined(lines: Sequence[str]) -> str:
 
 def whole(ask: Ask, proof: Proof) -> str:
     """The next line, with those with which it goes on."""
-    lines = [ask(proof, prompt_of(proof))]
+    count = len(proof.goals())
+    lines = [ask(proof, "closed> " if proof.is_closed() else f"{count} goal{'s' * (count > 1)}> ")]
     while goes_on("\n".join(lines)):
         try:
             more = ask(proof, CONTINUED)
@@ -143,8 +144,9 @@ class Talk:
         """The same, where a failure isn't told yet."""
         proof, verb = self.proof, words[0]
         alone: dict[str, Callable[[], list[str]]] = {
-            "undo": self.told_undo, "goals": lambda: shown_goals(proof), "show": lambda: shown_goals(proof), "history": self.told_history,
-            "help": self.told_help, "?": self.told_help, "quit": self.leave, "exit": self.leave,
+            "undo": self.told_undo, "history": self.told_history, "quit": self.leave, "exit": self.leave,
+            **dict.fromkeys(("goals", "show"), lambda: shown_goals(proof)),
+            **dict.fromkeys(("help", "?"), lambda: (__doc__ or "").split("\n\n")[2:5]),
         }
         if verb in alone and len(words) == 1:
             return alone[verb]()
@@ -176,10 +178,6 @@ class Talk:
     def told_history(self) -> list[str]:
         """What was done."""
         return [f"{number:>3}: {line}" for number, line in enumerate(as_typed(self.proof.so_far()), 1)] or ["nothing yet"]
-
-    def told_help(self) -> list[str]:
-        """What lines there are."""
-        return (__doc__ or "").split("\n\n")[2:5]
 
     def leave(self) -> list[str]:
         """Ends the talk."""
@@ -237,12 +235,6 @@ class Talk:
 
 # The terminal
 
-def names() -> dict[str, list[str]]:
-    """The names that are completed."""
-    known: dict[str, list[str]] = json.loads(NAMES.read_text(encoding="utf-8"))
-    return known
-
-
 def names_of(proof: Proof) -> list[str]:
     """The names in the model and in the goals, those of constants with their brackets."""
     said = " ".join([re.sub(r"/\*.*?\*/|//[^\n]*", " ", proof.model.read_bytes().decode("latin-1"), flags=re.DOTALL), *proof.goals()])
@@ -252,7 +244,7 @@ def names_of(proof: Proof) -> list[str]:
 
 def completions(before: str, names_in_quotes: Iterable[str] = ()) -> tuple[list[str], int]:
     """The words that may stand where this text ends, and how many of its letters they replace: in quotes names of formulas."""
-    known = names()
+    known: dict[str, list[str]] = json.loads(NAMES.read_text(encoding="utf-8"))
     begun = re.search(r"[A-Za-z]\w*$", before)
     word = begun[0] if begun else ""
     front = before[: len(before) - len(word)]
@@ -303,12 +295,6 @@ def asks_terminal() -> Ask:
     return ask
 
 
-def prompt_of(proof: Proof) -> str:
-    """What stands before a line."""
-    count = len(proof.goals())
-    return "closed> " if proof.is_closed() else f"{count} goal{'s' * (count > 1)}> "
-
-
 def asks_file(proof: Proof, before: str) -> str:
     """The next line of standard input, which is shown as it would be at a terminal."""
     line = sys.stdin.readline()
@@ -316,13 +302,6 @@ def asks_file(proof: Proof, before: str) -> str:
         raise EOFError
     say([f"{before}{line.rstrip()}"])
     return line
-
-
-def say(lines: Iterable[str]) -> None:
-    """Prints lines."""
-    for line in lines:
-        print(line)
-    sys.stdout.flush()
 
 
 def leave(proof: Proof) -> int:

@@ -17,8 +17,8 @@ from typing import TYPE_CHECKING, Any, Callable, Sequence
 
 from dlkt.archive import is_archive
 from dlkt.leaves import NOT_ASKED, POWER, WAY_OUT, listed
-from dlkt.program import TERM_BEGINS, Refused, add_options, numbered, one_line, program_of, put_at, read_bytes, refuse_bad_output, shown
-from dlkt.verdict import NOTHING_KNOWN, OPEN, REFUTED, Fault, Guard, Hint, Kind, Leaf, Maker, Options, Piece, Proof, Source, Spot, Verdict
+from dlkt.program import TERM_BEGINS, Position, Refused, add_options, numbered, one_line, program_of, put_at, read_bytes, refuse_bad_output, say, shown
+from dlkt.verdict import NOTHING_KNOWN, OPEN, REFUTED, Fault, Guard, Hint, Kind, Leaf, Maker, Options, Piece, Proof, Source, Verdict
 from dlkt.verdict import counted, is_said_of, verdict_on
 
 if TYPE_CHECKING:
@@ -64,12 +64,12 @@ GUARD_WHY = {
 
 # Printing
 
-def at(place: Spot) -> str:
+def at(place: Position) -> str:
     """A place as editors read it."""
     return f"{one_line(place.file)}:{place.line}:{place.column}"
 
 
-def underlined(place: Spot) -> list[str]:
+def underlined(place: Position) -> list[str]:
     """The line of a place, or the part of a long one round it, and a caret below it."""
     begin = max(0, place.column - LONGEST // 2) if len(place.source) > LONGEST else 0
     return [f"    {place.source[begin : begin + LONGEST]}", f"    {place.caret[begin:]}"]
@@ -171,25 +171,15 @@ def goal_object(goal: str) -> dict[str, Any]:
     return {"text": goal, "formulas": [{"place": place, "formula": formula} for place, formula in [*left, *right]]}
 
 
-def place_object(place: Spot | None) -> dict[str, Any] | None:
-    """A place."""
-    return place._asdict() if place else None
-
-
 def maker_object(made: Maker) -> dict[str, Any]:
     """A word that made something."""
-    return {"word": made.word, "place": place_object(made.place)}
-
-
-def leaf_object(leaf: Leaf) -> dict[str, Any]:
-    """A leaf."""
-    return {"leaf": leaf.number, "text": leaf.text, **leaf.said.as_object(), "made_by": [maker_object(made) for made in leaf.made_by]}
+    return {"word": made.word, "place": made.place._asdict()}
 
 
 def fault_object(fault: Fault) -> dict[str, Any]:
     """A refusal."""
     goals = [goal_object(goal) for goal in fault.goals]
-    told = {"text": fault.text, "file": fault.file, "place": place_object(fault.place), "why": fault.why, "goals": goals}
+    told = {"text": fault.text, "file": fault.file, "place": fault.place and fault.place._asdict(), "why": fault.why, "goals": goals}
     return {**told, "parts": fault.parts, "count": fault.count_of_goals}
 
 
@@ -203,27 +193,22 @@ def as_object(verdict: Verdict, put: str | None = None) -> dict[str, Any]:
     """A verdict as one object, with the name at which the term was put."""
     found, strategy = verdict.found, verdict.proof.name if verdict.kind is Kind.STRATEGY else None
     proof, fault = (found, None) if isinstance(found, Proof) else (None, found)
+    told = [(leaf, [maker_object(made) for made in leaf.made_by]) for leaf in verdict.leaves]
     return {
         "model": verdict.model.name, "proof": verdict.proof.name, "kind": verdict.kind, "strategy": strategy, "term": put,
         "outcome": verdict.outcome, "refusal": fault_object(fault) if fault else None,
         "lines": proof.lines if proof else None,
         "goals": [goal_object(goal) for goal in proof.goals] if proof else [],
         "linked": [lemma._asdict() for lemma in proof.lemmas] if proof else [],
-        "leaves": [leaf_object(leaf) for leaf in verdict.leaves], "solvers": verdict.solvers,
+        "leaves": [{"leaf": leaf.number, "text": leaf.text, **leaf.said.as_object(), "made_by": makers} for leaf, makers in told],
+        "solvers": verdict.solvers,
         "guard": guard_object(verdict.guard) if verdict.guard else None,
-        "hints": [{"place": place_object(hint.place), "text": hint.text} for hint in verdict.hints],
+        "hints": [{"place": hint.place._asdict(), "text": hint.text} for hint in verdict.hints],
         "verified": verdict.is_verified, "reasons": verdict.reasons, "rests_on": verdict.rests_on, "status": verdict.status,
     }
 
 
 # The command
-
-def say_lines(lines: Sequence[str]) -> None:
-    """Prints lines at once."""
-    for line in lines:
-        print(line)
-    sys.stdout.flush()
-
 
 def source_of(name: str) -> Source:
     """The bytes of a file."""
@@ -260,7 +245,7 @@ def not_found(options: argparse.Namespace, found: "NotFound") -> int:
     if options.json:
         say_without_verdict(options, outcome, [said, *found.reasons], status)
     else:
-        say_lines([*found.reasons, f"{outcome or 'not verified'}: {said}"])
+        say([*found.reasons, f"{outcome or 'not verified'}: {said}"])
     return status
 
 
@@ -281,7 +266,7 @@ class Saying:
         if self.is_silent:
             return
         try:
-            say_lines(lines_of(piece))
+            say(lines_of(piece))
         except BrokenPipeError as fault:
             if not self.has_files:
                 raise
@@ -300,8 +285,8 @@ def once(options: argparse.Namespace) -> int:
     model, settings, proof = source_of(options.file), options_of(options), proof_of(options)
     if not isinstance(proof, Source):
         return not_found(options, proof)
-    say = Saying(options)
-    verdict = verdict_on(model, proof, settings, say)
+    saying = Saying(options)
+    verdict = verdict_on(model, proof, settings, saying)
     put = options.output if verdict.term else None
     if put is not None:
         put_at(verdict.term, put)
@@ -309,11 +294,11 @@ def once(options: argparse.Namespace) -> int:
         from dlkt.commands.page import written  # it takes a while
 
         written(verdict, options.page, settings.program)
-    say.end()
+    saying.end()
     if options.json:
         print(json.dumps(as_object(verdict, put)), flush=True)
     else:
-        say_lines([last_line(verdict)])
+        say([last_line(verdict)])
     return verdict.status
 
 
@@ -326,12 +311,12 @@ def on_archive(options: argparse.Namespace) -> int:
     from dlkt.archive import proving, verifying  # they need the package lark
 
     limits = proving.Limits(program_of(options.dlk), SEARCH_SECONDS, options.seconds)
-    found = verifying.verdicts_on(options.file, options.entry, limits, (lambda lines: None) if options.json else say_lines)
+    found = verifying.verdicts_on(options.file, options.entry, limits, (lambda lines: None) if options.json else say)
     if options.json:
         told = [(one, {"entry": one.name, "status": one.status, "said": one.line}) for one in found]
         print(json.dumps([{**object, "verdict": as_object(one.verdict, None) if one.verdict else None} for one, object in told]), flush=True)
     else:
-        say_lines([one.line for one in found])
+        say([one.line for one in found])
     return verifying.worst(found)
 
 
