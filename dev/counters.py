@@ -27,12 +27,6 @@ BLANK = re.compile(r"\bBlank\s*::\s*new\b")
 COUNTER = re.compile(r"\bSteps\s*(?:::\s*<[^>]*>\s*)?::\s*new\b")
 
 
-def code_of(crate: str) -> list[Path]:
-    """The files of a crate's code, without its tests."""
-    source = TOP / "crates" / crate / "src"
-    return [file for file in sorted(source.rglob("*.rt")) if file.name != "tests.rt" and "tests" not in file.relative_to(source).parts]
-
-
 def faults_of(file: Path, lines: list[str]) -> list[str]:
     """What is wrong in a file, a line each."""
     place = file.relative_to(TOP)
@@ -56,7 +50,8 @@ def main() -> int:
     crates = sorted(with_those_below(["dlk"]))
     faults, seen = [], set()
     for crate in crates:
-        for file in code_of(crate):
+        source = TOP / "crates" / crate / "src"
+        for file in (it for it in sorted(source.rglob("*.rt")) if not {"tests", "tests.rt"} & set(it.relative_to(source).parts)):
             lines = [line.split("//")[0].rstrip() for line in file.read_text().splitlines()]
             faults.extend(faults_of(file, lines))
             seen.add(file.relative_to(TOP))

@@ -330,17 +330,11 @@ def look(edits: Edits) -> bool:
     return tell_faults([(f"{name}/{edit}", fault(name, path)) for name, files in edits.items() for edit, path in files.items()], "edits")
 
 
-def sums(crate: str, every: list[Tried]) -> list[int]:
-    """How many edits of a crate came to what."""
-    counts = Counter(it.kind for it in every if it.crate == crate)
-    return [counts[kind] for kind in KINDS]
-
-
 def tell_sums(names: list[str], every: list[Tried]) -> None:
     """Prints the sums by crate, and of all."""
     for name in [*names, "all"]:
-        of = sums(name, every) if name != "all" else [sum(it) for it in zip(*(sums(name, every) for name in names))]
-        print(f"{name}: {sum(of)} edits, " + ", ".join(f"{number} {kind}" for number, kind in zip(of, KINDS) if number or kind == "refused"))
+        counts = Counter(it.kind for it in every if name in (it.crate, "all"))
+        print(f"{name}: {counts.total()} edits, " + ", ".join(f"{counts[kind]} {kind}" for kind in KINDS if counts[kind] or kind == "refused"))
 
 
 def try_consistent(given: argparse.Namespace) -> int:

@@ -315,7 +315,10 @@ def ended(name: str, work: Callable[[Words], int], words: Words, refused: int = 
     except OSError as fault:
         place = f"{fault.filename}: " if fault.filename else ""
         print(f"{name}: {one_line(place)}{fault.strerror or fault}", file=sys.stderr)
-        drop_output()
+        try:
+            sys.stdout.flush()
+        except OSError:  # what waits can't be written: nothing more is to be said of it at the end
+            os.dup2(os.open(os.devnull, os.O_WRONLY), sys.stdout.fileno())
         return refused
 
 
@@ -326,11 +329,3 @@ def open_streams() -> None:
         if getattr(sys, name) is None:
             setattr(sys, name, open(os.devnull, "w", encoding="utf-8"))  # noqa: SIM115  (it stays open to the end)
         getattr(sys, name).reconfigure(errors="backslashreplace")
-
-
-def drop_output() -> None:
-    """Lets go what waits to be written and can't be, so that nothing more is said of it at the end."""
-    try:
-        sys.stdout.flush()
-    except OSError:
-        os.dup2(os.open(os.devnull, os.O_WRONLY), sys.stdout.fileno())

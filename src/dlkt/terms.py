@@ -132,6 +132,35 @@ class Nodes:
             raise Malformed
         return tree
 
+    def sides(self, rest: str) -> Sides:
+        """The trees of a sequent by its nodes."""
+        found = SIDES.fullmatch(rest)
+        if found is None:
+            raise Malformed
+        left, right = ([self.formula(number) for number in side.split()] for side in found.groups())
+        return left, right
+
+    def pairs(self, rest: str) -> Pairs:
+        """The pairs of a substitution by their nodes."""
+        pairs, at = list[tuple[str, Tree]](), 0
+        while at < len(rest):
+            at += bool(pairs)
+            found = PAIR.match(rest, at)
+            if found is None or rest[found.end() : found.end() + 1] not in ("", ",") or rest[found.end() :] == ",":
+                raise Malformed
+            symbol, tree = found[1], self.numbered(found[2])
+            if not may_replace(symbol, tree):
+                raise Malformed
+            pairs.append((symbol, tree))
+            at = found.end()
+        return pairs
+
+    def of_cut(self, rest: str) -> Tree:
+        """The formula of a cut by its node."""
+        if not re.fullmatch(f"#{NUMBER}", rest):
+            raise Malformed
+        return self.formula(rest[1:])
+
     def read(self, word: str, rest: str) -> Tree:
         """The tree of a node line, of which this is the word and what stands behind it."""
         row, detail = ROWS.get(word), ""
@@ -156,39 +185,6 @@ class Nodes:
         """Makes a tree the next node."""
         self.known.add(id(tree))
         self.by_number.append(tree)
-
-
-def sides_by_nodes(nodes: Nodes, rest: str) -> Sides:
-    """The trees of a sequent by its nodes."""
-    found = SIDES.fullmatch(rest)
-    if found is None:
-        raise Malformed
-    left, right = ([nodes.formula(number) for number in side.split()] for side in found.groups())
-    return left, right
-
-
-def pairs_by_nodes(nodes: Nodes, rest: str) -> Pairs:
-    """The pairs of a substitution by their nodes."""
-    pairs: Pairs = []
-    at = 0
-    while at < len(rest):
-        at += bool(pairs)
-        found = PAIR.match(rest, at)
-        if found is None or rest[found.end() : found.end() + 1] not in ("", ",") or rest[found.end() :] == ",":
-            raise Malformed
-        symbol, tree = found[1], nodes.numbered(found[2])
-        if not may_replace(symbol, tree):
-            raise Malformed
-        pairs.append((symbol, tree))
-        at = found.end()
-    return pairs
-
-
-def node_of_cut(nodes: Nodes, rest: str) -> Tree:
-    """The formula of a cut by its node."""
-    if not re.fullmatch(f"#{NUMBER}", rest):
-        raise Malformed
-    return nodes.formula(rest[1:])
 
 
 def step_of(place: int, line: str, readers: Readers) -> Step:
@@ -217,9 +213,8 @@ def step_of(place: int, line: str, readers: Readers) -> Step:
 def read(data: str | bytes) -> Term:
     """The term of a file of either version. Refused at its first wrong line."""
     lines, version, nodes, trees, steps = lines_of(data), version_of(data), Nodes(), Trees(), list[Step]()
-    by_nodes = Readers(lambda rest: sides_by_nodes(nodes, rest), lambda rest: pairs_by_nodes(nodes, rest), lambda rest: node_of_cut(nodes, rest))
     by_texts = Readers(lambda rest: reader.sequent(rest, trees), lambda rest: reader.pairs(rest, trees), lambda rest: reader.formula(rest, trees))
-    readers = by_nodes if version == 2 else by_texts
+    readers = Readers(nodes.sides, nodes.pairs, nodes.of_cut) if version == 2 else by_texts
     for place, line in enumerate(lines[version - 1 :], version):
         if line == END and steps:
             if place < len(lines):

@@ -174,11 +174,6 @@ def is_small(tree: Tree) -> bool:
     return tree.size <= MOST_NODES and tree.depth <= MOST_DEPTH
 
 
-def is_bare_system(tree: Tree) -> bool:
-    """Whether a tree is a system whose domain is `true`."""
-    return tree.word == "system" and tree.kids[-1].word == "true"
-
-
 # Canonical texts
 
 def unit_text(detail: str) -> str:
@@ -250,5 +245,5 @@ def may_replace(symbol: str, tree: Tree) -> bool:
     """Whether a tree may stand behind a symbol in a pair."""
     kind = next(kind for kind, pattern in SYMBOLS.items() if pattern.fullmatch(symbol))
     if kind == "ode":
-        return is_bare_system(tree)
+        return tree.word == "system" and tree.kids[-1].word == "true"
     return tree.sort in {"predicational": (FORMULA,), "program": (PROGRAM,)}.get(kind, (TERM, FORMULA))

@@ -292,11 +292,6 @@ def shared(text: str, tree: Part, lines: list[Line], refuted: set[tuple[int, int
     return (sharing.runs, done) if sharing.at == len(lines) else None
 
 
-def first_difference(one: str, other: str) -> int:
-    """The number of the first line in which two terms differ."""
-    return next((number for number, (here, there) in enumerate(zip(one.split("\n"), other.split("\n")), 1) if here != there), 0)
-
-
 def failed_at(done: str, said: Answer) -> int:
     """The first line of the word that fails where what was done is done again."""
     refusal = refusal_in(said.text)
@@ -319,7 +314,8 @@ def runs_in(program: str, model: Name, text: str, term: str) -> list[Run] | None
         again, said = made_by(program, model, done)
         if again == term:
             return runs
-        number = first_difference(term, again) if again else failed_at(done, said)
+        pairs = enumerate(zip(term.split("\n"), again.split("\n")), 1) if again else ()
+        number = next((at for at, (here, there) in pairs if here != there), 0) if again else failed_at(done, said)
         wrong = next((run for run in runs if run.first <= number <= run.last), None)
         if wrong is None or (wrong.first, wrong.byte) in refuted:
             return None

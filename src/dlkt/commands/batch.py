@@ -20,7 +20,7 @@ import sys
 import time
 from concurrent.futures import ThreadPoolExecutor
 from pathlib import Path
-from typing import Any, Iterable, Iterator, Mapping, NamedTuple, Sequence
+from typing import Any, Callable, Iterable, Iterator, Mapping, NamedTuple, Sequence
 
 from dlkt.commands.verify import at
 from dlkt.program import TERM_BEGINS, Refused, add_options, one_line, program_of, read_bytes
@@ -81,11 +81,13 @@ def row_of(name: str, verdict: Verdict, took: str) -> Row:
     )
 
 
-def looked_at(name: str, files: Mapping[str, bytes], options: Options) -> Row:
-    """The line of a proof, also where nothing can be said of it."""
-    begin, kind = time.monotonic(), Kind.STRATEGY if "strategy" in files else Kind.TERM
+def looked_at(name: str, program: Callable[[], str], find: Callable[[], Mapping[str, bytes]], limit: int) -> Row:
+    """The line of a proof, also where nothing can be said of it. Its leaves are asked one at a time: other proofs are looked at, too."""
     try:
-        verdict = verdict_on(Source("model", files["model"]), Source(str(kind), files[kind]), options._replace(kind=kind))
+        files = find()
+        begin, kind = time.monotonic(), Kind.STRATEGY if "strategy" in files else Kind.TERM
+        options = Options(program(), limit, 1, kind=kind)
+        verdict = verdict_on(Source("model", files["model"]), Source(str(kind), files[kind]), options)
         return row_of(name, verdict, f"{time.monotonic() - begin:.1f}")
     except Refused as why:
         return unknown(name, str(why))
@@ -180,15 +182,6 @@ def interrupt(process: "subprocess.Popen[bytes]") -> None:
         os.killpg(process.pid, signal.SIGINT)
 
 
-def one(name: str, folder: Path, options: argparse.Namespace) -> Row:
-    """The line of the proof in a folder, in a process of the crew. Its leaves are asked one at a time: its fellows are at work, too."""
-    try:
-        files = with_search(folder, options.dlk) if options.search else files_of(folder)
-        return looked_at(name, files, Options(options.dlk, options.seconds, 1))
-    except Refused as why:
-        return unknown(name, str(why))
-
-
 def with_search(folder: Path, program: str) -> Mapping[str, bytes]:
     """The files of a proof, with a strategy that is found where there is none, and a plain one for a sketch. Refused where none is found."""
     from dlkt.search.proofs import by_search, by_sketch
@@ -211,10 +204,7 @@ def with_search(folder: Path, program: str) -> Mapping[str, bytes]:
 
 def task(name: str, files: Mapping[str, bytes], program: str, limit: int) -> Row:
     """The line of a proof, on a worker: the program is that of the worker, or that of the same path there."""
-    try:
-        return looked_at(name, files, Options(program_of(os.environ.get("DLK") or program), limit, 1))
-    except Refused as why:
-        return unknown(name, str(why))
+    return looked_at(name, lambda: program_of(os.environ.get("DLK") or program), lambda: files, limit)
 
 
 def client_of(address: str) -> Any:
@@ -324,7 +314,9 @@ def run(options: argparse.Namespace) -> int:
     if options.one is not None:
         # Where the whole runs behind a shell's `&`, SIGINT is ignored, by which the crew is ended.
         signal.signal(signal.SIGINT, signal.default_int_handler)
-        print(json.dumps(one(options.one, Path(options.folders[0]), options)))
+        folder = Path(options.folders[0])
+        find = (lambda: with_search(folder, options.dlk)) if options.search else lambda: files_of(folder)
+        print(json.dumps(looked_at(options.one, lambda: str(options.dlk), find, options.seconds)))
         return 0
     options.search = options.search and not options.dask
     before = rows_in(options.against) if options.against else None

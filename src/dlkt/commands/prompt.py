@@ -144,7 +144,8 @@ class Talk:
         """The same, where a failure isn't told yet."""
         proof, verb = self.proof, words[0]
         alone: dict[str, Callable[[], list[str]]] = {
-            "undo": self.told_undo, "history": self.told_history, "quit": self.leave, "exit": self.leave,
+            "undo": self.told_undo, "quit": self.leave, "exit": self.leave,
+            "history": lambda: [f"{number:>3}: {said}" for number, said in enumerate(as_typed(proof.so_far()), 1)] or ["nothing yet"],
             **dict.fromkeys(("goals", "show"), lambda: shown_goals(proof)),
             **dict.fromkeys(("help", "?"), lambda: (__doc__ or "").split("\n\n")[2:5]),
         }
@@ -174,10 +175,6 @@ class Talk:
         """What stands again where the last line is taken back."""
         last = self.proof.undo()
         return [f"undone: {as_typed([last.script()])[0]}", *shown_goals(self.proof, last.goal, 1)]
-
-    def told_history(self) -> list[str]:
-        """What was done."""
-        return [f"{number:>3}: {line}" for number, line in enumerate(as_typed(self.proof.so_far()), 1)] or ["nothing yet"]
 
     def leave(self) -> list[str]:
         """Ends the talk."""
