@@ -19,7 +19,6 @@ use dlk_report::{Report, ReportFault, report_json, report_text, shown};
 use dlk_shared::SharedStore;
 use dlk_store::{Steps, Store};
 use std::alloc::Global;
-use std::mem::forget;
 use std::sync::ledger::Ledger;
 
 /// The bytes of a report.
@@ -102,8 +101,7 @@ fn check_on<S: Store, L: Ledger>(
     Ok(reply)
 }
 
-/// Checks a term against a model, and shows the proof that it is so. The kernel's memory isn't given back: the program ends behind
-/// this, and to give it back piece by piece takes a tenth of the time.
+/// Checks a term against a model, and shows the proof that it is so.
 ///
 /// # Errors
 ///
@@ -119,7 +117,5 @@ pub fn check<L: Ledger>(
     ensures { IfOk result (λ r. Checks showing model.now term.now (reply_of r)) }
 {
     let mut kernel = Kernel::new(alloc, SharedStore::new(alloc));
-    let answer = answer_of(check_on(alloc, showing, &mut kernel, model, term, steps));
-    forget(kernel);
-    answer
+    answer_of(check_on(alloc, showing, &mut kernel, model, term, steps))
 }

@@ -22,7 +22,6 @@ use dlk_store::{Id, Steps, Store};
 use dlk_strategy::{Done, RunFault, run_is_taken, run_shows_formula, run_strategy};
 use dlk_tacsyn::{TacSyntax, Tactic, strategy};
 use std::alloc::Global;
-use std::mem::forget;
 use std::sync::ledger::Ledger;
 
 /// The answer to a text that is no strategy.
@@ -115,8 +114,7 @@ fn prove_on<S: Store, L: Ledger>(
     finish(alloc, kernel, done.fact, done.steps.as_slice(), steps)
 }
 
-/// Runs a strategy on a model. The reply has the report, and the text of the term to be written. The kernel's memory isn't given back,
-/// since the program ends behind this.
+/// Runs a strategy on a model. The reply has the report, and the text of the term to be written.
 ///
 /// # Errors
 ///
@@ -131,7 +129,5 @@ pub fn prove<L: Ledger>(
     ensures { IfOk result (λ r. Proves model.now strategy.now (reply_of r)) }
 {
     let mut kernel = Kernel::new(alloc, SharedStore::new(alloc));
-    let answer = answer_of(prove_on(alloc, &mut kernel, model, strategy, steps));
-    forget(kernel);
-    answer
+    answer_of(prove_on(alloc, &mut kernel, model, strategy, steps))
 }

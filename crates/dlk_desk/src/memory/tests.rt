@@ -44,7 +44,6 @@ struct Row {
     out: Option<&'static [u8]>,
     read_faults: u64,
     write_faults: u64,
-    file_faults: u64,
     print_faults: u64,
 }
 
@@ -68,7 +67,6 @@ const ROWS: &[Row] = &[
         out: Some(b"abcdef"),
         read_faults: 1,
         write_faults: 0,
-        file_faults: 0,
         print_faults: 0,
     },
     Row {
@@ -89,7 +87,6 @@ const ROWS: &[Row] = &[
         out: Some(b"a"),
         read_faults: 1,
         write_faults: 0,
-        file_faults: 0,
         print_faults: 0,
     },
     Row {
@@ -110,7 +107,6 @@ const ROWS: &[Row] = &[
         out: Some(b""),
         read_faults: 2,
         write_faults: 1,
-        file_faults: 1,
         print_faults: 0,
     },
     Row {
@@ -121,8 +117,7 @@ const ROWS: &[Row] = &[
         printed: b"",
         out: Some(b"abc"),
         read_faults: 2,
-        write_faults: 1,
-        file_faults: 0,
+        write_faults: 0,
         print_faults: 1,
     },
     Row {
@@ -134,7 +129,6 @@ const ROWS: &[Row] = &[
         out: None,
         read_faults: 1,
         write_faults: 1,
-        file_faults: 1,
         print_faults: 0,
     },
 ];
@@ -159,7 +153,6 @@ fn moves_pieces_and_fails_where_told(rt: HostRuntime) -> Result<(), Fail> {
         assert!(rt; desk.file("missing").is_none());
         assert_eq!(rt; desk.read_faults(), row.read_faults);
         assert_eq!(rt; desk.write_faults(), row.write_faults);
-        assert_eq!(rt; desk.file_faults(), row.file_faults);
         assert_eq!(rt; desk.print_faults(), row.print_faults);
         assert_eq!(rt; desk.starved(), 0);
     }
