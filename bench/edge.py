@@ -42,24 +42,25 @@ JSON = b'{"conclusion":"==> x>=0 -> x>=0","goals":[],"leaves":[],"lines":3,"stat
 # an axiom that the guard refuses
 UNSOUND = b"(\\forall x_ p(||))' <-> \\forall x_ (p(||))'"
 WORDS = b"refused: words\n"
-USAGES = b"""dlk: usage, in which - is standard input:
-  dlk check MODEL TERM             replays a proof term, and prints whether the model is closed
-  dlk report MODEL TERM            the same as JSON
-  dlk smt MODEL TERM               replays a proof term, and prints its leaves for a solver
-  dlk guard MODEL TERM             replays a proof term, and prints whether its lines are guarded, and as check does
-  dlk prove MODEL STRATEGY TERM    runs a strategy, writes the term that it makes, and prints as check does
-  dlk session MODEL SCRIPT TERM    runs strategies on chosen goals by a script's lines, and writes the term that is saved
-  dlk convert TERM OUT             writes a proof term anew in the newest version, and prints its report
-  dlk link MODEL TERM LEMMA OUT    proves goals of a term by another, writes the term of both, and prints as check does
-  dlk trim MODEL TERM OUT          leaves out the lines that a term doesn't need, writes the rest, and prints as check does
-  dlk print FILE                   prints an expression's canonical text
-  dlk vars FILE                    prints an expression's free, bound and must-bound variables, and its symbols
-  dlk subst FILE SUBST             applies a substitution to an expression
+USAGES = b"""dlk 1.0.0: usage, in which - is standard input:
+  dlk check MODEL TERM             checks a proof term, and prints its report
+  dlk report MODEL TERM            checks a proof term, and prints its report as JSON
+  dlk smt MODEL TERM               checks a proof term, and prints its leaves for a solver
+  dlk guard MODEL TERM             checks a proof term, and prints whether it is guarded, and its report
+  dlk prove MODEL STRATEGY TERM    runs a strategy, writes the term that it makes, and prints its report
+  dlk session MODEL SCRIPT TERM    runs the lines of a script, goal by goal, and writes the term that they save
+  dlk convert TERM OUT             writes a term in the newest version, and prints its report
+  dlk link MODEL TERM LEMMA OUT    proves goals of a term by another term, writes the whole, and prints its report
+  dlk trim MODEL TERM OUT          leaves out the lines that a term doesn't need, writes the rest, and prints its report
+  dlk print FILE                   prints the canonical text of an expression
+  dlk vars FILE                    prints the free, bound and must-bound variables of an expression, and its symbols
+  dlk subst FILE SUBST             prints what a substitution makes of an expression
   dlk gen N                        proves a generated model of N assignments, from 1 to 500, and checks the term
 """
 # how many of the words behind a command name inputs
 INPUTS = {"print": 1, "vars": 1, "convert": 1, "link": 3, "gen": 0}
-CUT = b"dlk: the answer could not be written whole\n"
+CUT = b"dlk: the answer could not be written whole, to standard output\n"
+WRITES = ("prove", "session", "convert", "link", "trim")
 # a conjunction of comparisons of these names to 0 is longer than three pieces of those in which a file is read
 NAMES = [f"{'a' * 270}{i:03}" for i in range(100)]
 
@@ -74,12 +75,32 @@ def said(name, wanted, found):
         faults.append(name)
 
 
-def told(status, words):
+def is_readable(path):
+    """Whether something of a file can be read."""
+    try:
+        with open(path, "rb") as file:
+            file.read(1)
+    except OSError:
+        return False
+    return True
+
+
+def cut(words):
+    """What must stand on standard error where an answer wasn't written whole."""
+    if words[0] not in WRITES:
+        return CUT
+    return b"dlk: the answer could not be written whole, to " + os.fsencode(words[-1]) + b" or standard output\n"
+
+
+def told(status, words, cwd="."):
     """What must stand on standard error: a message with a status that comes without an answer, and nothing beside an answer."""
     if status == 4:
-        names = words[1:1 + INPUTS.get(words[0], 2)]
-        return b"dlk: an input could not be read, of:" + b"".join(b" " + os.fsencode(it) for it in names) + b"\n"
-    return {3: USAGES, 5: CUT, 6: b"dlk: memory ran out\n"}.get(status, b"")
+        names = [os.fsencode(it) for it in words[1:1 + INPUTS.get(words[0], 2)]]
+        missed = next(it for it in names if it == b"-" or not is_readable(os.path.join(os.fsencode(cwd), it)))
+        return b"dlk: an input could not be read: " + missed + b"\n"
+    if status == 5:
+        return cut(words)
+    return {3: USAGES, 6: b"dlk: memory ran out\n"}.get(status, b"")
 
 
 def run(words, given=b"", **options):
@@ -94,7 +115,7 @@ def run(words, given=b"", **options):
 
 def row(name, words, status, printed=b"", **options):
     """A row of a run that must end with this status, print these bytes, and say on standard error what belongs to the status."""
-    said(name, (status, printed, told(status, words)), run(words, **options))
+    said(name, (status, printed, told(status, words, options.get("cwd", "."))), run(words, **options))
 
 
 def held(path):
@@ -227,7 +248,7 @@ def writes(at, verb, words, status, printed, written):
     out.unlink(missing_ok=True)
     with open("/dev/full", "wb") as full:
         status, _, errors = run([*words, out], cwd=at, stdout=full)
-        said(f"{verb} on a full standard output", (5, CUT), (status, errors))
+        said(f"{verb} on a full standard output", (5, cut([verb, out])), (status, errors))
     said(f"but what {verb} writes is whole", written, held(out))
 
 
@@ -257,7 +278,7 @@ def closed(at):
     out = at / "closed-out"
     for streams, ended in {
         "<&-": (0, REPORT, b""),
-        ">&-": (5, b"", CUT),
+        ">&-": (5, b"", cut(["prove", out])),
         "2>&-": (0, REPORT, b""),
         ">&- 2>&-": (5, b"", b""),
         "<&- >&- 2>&-": (5, b"", b""),

@@ -66,12 +66,13 @@ class Checks(unittest.TestCase):
 
 
 class Version(unittest.TestCase):
-    """The version stands in the package, and is told by the man page."""
+    """The version stands in the package, and is told by the program's usage and the man page."""
 
     def test_it_is_the_same_everywhere(self) -> None:
         top = checks.ROOT
         found = re.search(r'__version__ = "([0-9.]+)"', (top / "src" / "dlkt" / "__init__.py").read_text(encoding="utf-8"))
         assert found
+        self.assertIn(f'"dlk {found[1]}: usage', (top / "crates" / "dlk" / "src" / "explain.rt").read_text(encoding="utf-8"))
         self.assertIn(f'.Os "dlk {found[1]}"', (top / "man" / "dlk.1").read_text(encoding="utf-8"))
 
 

@@ -14,7 +14,7 @@ use Rattle.dlk.proofs.Given.{same_through, after_through, part_through, no_name,
 
 failed_through : (tells : Type 0) (old mid new : Outside) → OnlyReads tells old mid → OnlyWriteFailed mid new → OnlyWriteFailed old new
 failed_through tells old mid new reads failed = record {
-  cause = subst (λ (n : ℕ). Rose n new.write_faults) reads.write_faults failed.cause;
+  cause = subst (λ (n : ℕ). Rose n new.file_faults) reads.file_faults failed.cause;
   print_faults = failed.print_faults ∙ reads.print_faults;
 }
 
@@ -57,7 +57,7 @@ no_write_through tells old mid new reads none = record {
   writing = none.writing ∙ reads.writing;
   target = λ t. none.target t ∙ reads.target t;
   files = λ t. same_through old.files mid.files new.files (reads.files t) (none.files t);
-  write_faults = none.write_faults ∙ reads.write_faults;
+  file_faults = none.file_faults ∙ reads.file_faults;
 }
 
 read_alone : (tells : Type 0) (old new : Outside) → OnlyReads tells old new → StartsNoWrite tells old new
@@ -65,7 +65,7 @@ read_alone tells old new reads = record {
   writing = reads.writing;
   target = reads.target;
   files = reads.files;
-  write_faults = reads.write_faults;
+  file_faults = reads.file_faults;
 }
 
 -- an answer was given, or a front of it

@@ -10,13 +10,13 @@ use Rattle.dlk_replies.specs.Replies.{Reply, code_of}
 use Rattle.dlk.specs.Answers.{bytes_of, Answers}
 use Rattle.dlk.specs.Outputs.{Output, output_with, after, WrittenInPart}
 
--- On every desk: status 3 has wrong words as its cause, 4 a read fault and 5 a fault of writing or of printing, and no status is above 6.
+-- On every desk: status 3 has wrong words as its cause, 4 a read fault and 5 a write fault, and no status is above 6.
 pub record Caused (words : List Word) (status : ℕ) (old new : Outside) : Type 0 where
   pub known : status ≤ 6
   pub words_only : status ≡ 3 → IsNone (command_of words)
   pub no_form : IsNone (command_of words) → (status ≡ 3) ⊎ (status ≡ 5) ⊎ (status ≡ 6)
   pub read_fault : status ≡ 4 → Rose old.read_faults new.read_faults
-  pub write_fault : status ≡ 5 → Rose old.write_faults new.write_faults ⊎ Rose old.print_faults new.print_faults
+  pub write_fault : status ≡ 5 → Rose old.write_faults new.write_faults
 
 -- The first `count` of these inputs were asked for, in their order. Of the last of those at most one byte past its limit was taken. What
 -- was taken of an earlier one can't be seen, since a desk tells only what is left of the file being read.
@@ -37,10 +37,10 @@ pub record StartsNoWrite (tells : Type 0) (old new : Outside) : Type 0 where
   pub writing : new.writing ≡ old.writing
   pub target : tells → new.target ≡ old.target
   pub files : tells → SameFiles old.files new.files
-  pub write_faults : new.write_faults ≡ old.write_faults
+  pub file_faults : new.file_faults ≡ old.file_faults
 
 -- On every desk: without an output, and with status 2, no write is started. With a read fault or for want of memory nothing is
--- printed either, and neither the count of write faults nor that of print faults has risen.
+-- printed either, and no count of write faults has risen.
 pub record Keeps (tells : Type 0) (words : List Word) (status : ℕ) (old new : Outside) : Type 0 where
   pub no_output : IsNone (output words) → StartsNoWrite tells old new
   pub refused : status ≡ 2 → StartsNoWrite tells old new
@@ -63,7 +63,7 @@ pub record GivesWhole (words : List Word) (status : ℕ) (old new : Outside) (re
 
 -- a write of a file failed, and no print did
 pub record OnlyWriteFailed (old new : Outside) : Type 0 where
-  pub cause : Rose old.write_faults new.write_faults
+  pub cause : Rose old.file_faults new.file_faults
   pub print_faults : new.print_faults ≡ old.print_faults
 
 -- This is the answer, and a front of it was given: its file first, and what is printed behind the whole file alone. Unless writing it
@@ -80,8 +80,8 @@ abbrev pub Answered : List Word → ℕ → Outside → Outside → Type 0
 Answered words status old new =
     ((reply : Reply) × GivesWhole words status old new reply) ⊎ (status ≡ 4) ⊎ ((status ≡ 5) × ((reply : Reply) × BreaksOff words old new reply)) ⊎ (status ≡ 6)
 
--- Where no count rose, the answer is given, or memory ran out.
+-- Where neither count rose, the answer is given, or memory ran out.
 abbrev pub Completes : List Word → ℕ → Outside → Outside → Type 0
 Completes words status old new =
-    (¬ Rose old.read_faults new.read_faults) → (¬ Rose old.write_faults new.write_faults) → (¬ Rose old.print_faults new.print_faults) →
+    (¬ Rose old.read_faults new.read_faults) → (¬ Rose old.write_faults new.write_faults) →
     ((reply : Reply) × GivesWhole words status old new reply) ⊎ (status ≡ 6)

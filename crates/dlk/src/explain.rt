@@ -9,19 +9,19 @@ pub const NO_WORDS: u8 = 7;
 
 /// The forms of the words, a line each, with what each does.
 const FORMS: [&str; 14] = [
-    "dlk: usage, in which - is standard input:",
-    "  dlk check MODEL TERM             replays a proof term, and prints whether the model is closed",
-    "  dlk report MODEL TERM            the same as JSON",
-    "  dlk smt MODEL TERM               replays a proof term, and prints its leaves for a solver",
-    "  dlk guard MODEL TERM             replays a proof term, and prints whether its lines are guarded, and as check does",
-    "  dlk prove MODEL STRATEGY TERM    runs a strategy, writes the term that it makes, and prints as check does",
-    "  dlk session MODEL SCRIPT TERM    runs strategies on chosen goals by a script's lines, and writes the term that is saved",
-    "  dlk convert TERM OUT             writes a proof term anew in the newest version, and prints its report",
-    "  dlk link MODEL TERM LEMMA OUT    proves goals of a term by another, writes the term of both, and prints as check does",
-    "  dlk trim MODEL TERM OUT          leaves out the lines that a term doesn't need, writes the rest, and prints as check does",
-    "  dlk print FILE                   prints an expression's canonical text",
-    "  dlk vars FILE                    prints an expression's free, bound and must-bound variables, and its symbols",
-    "  dlk subst FILE SUBST             applies a substitution to an expression",
+    "dlk 1.0.0: usage, in which - is standard input:",
+    "  dlk check MODEL TERM             checks a proof term, and prints its report",
+    "  dlk report MODEL TERM            checks a proof term, and prints its report as JSON",
+    "  dlk smt MODEL TERM               checks a proof term, and prints its leaves for a solver",
+    "  dlk guard MODEL TERM             checks a proof term, and prints whether it is guarded, and its report",
+    "  dlk prove MODEL STRATEGY TERM    runs a strategy, writes the term that it makes, and prints its report",
+    "  dlk session MODEL SCRIPT TERM    runs the lines of a script, goal by goal, and writes the term that they save",
+    "  dlk convert TERM OUT             writes a term in the newest version, and prints its report",
+    "  dlk link MODEL TERM LEMMA OUT    proves goals of a term by another term, writes the whole, and prints its report",
+    "  dlk trim MODEL TERM OUT          leaves out the lines that a term doesn't need, writes the rest, and prints its report",
+    "  dlk print FILE                   prints the canonical text of an expression",
+    "  dlk vars FILE                    prints the free, bound and must-bound variables of an expression, and its symbols",
+    "  dlk subst FILE SUBST             prints what a substitution makes of an expression",
     "  dlk gen N                        proves a generated model of N assignments, from 1 to 500, and checks the term",
 ];
 
@@ -32,31 +32,50 @@ fn forms<E: Eprint>(to: &E) -> Result<()> {
     Ok(())
 }
 
-/// Which inputs the words name, of which one could not be read.
-fn inputs<E: Eprint>(to: &E, words: &[String]) -> Result<()> {
+/// Which input could not be read: the one with this number, from 0 on; or of which one it was, where there is none with this number.
+fn inputs<E: Eprint>(to: &E, words: &[String], number: usize) -> Result<()> {
+    let Some(command) = Command::parse(words) else {
+        return to.eprintln("dlk: an input could not be read");
+    };
+    let names = command.inputs(words);
+    if number < names.len() {
+        to.eprint("dlk: an input could not be read: ")?;
+        return to.eprintln(names[number].as_str());
+    }
     to.eprint("dlk: an input could not be read, of:")?;
-    if let Some(command) = Command::parse(words) {
-        for name in command.inputs(words) {
-            to.eprint(" ")?;
-            to.eprint(name.as_str())?;
-        }
+    for name in names {
+        to.eprint(" ")?;
+        to.eprint(name.as_str())?;
     }
     to.eprintln("")
 }
 
-/// Says on standard error what a status means that comes without an answer, and nothing with one.
+/// Where the answer was to go.
+fn outputs<E: Eprint>(to: &E, words: &[String]) -> Result<()> {
+    to.eprint("dlk: the answer could not be written whole, to ")?;
+    if let Some(command) = Command::parse(words) {
+        if let Some(name) = command.output(words) {
+            to.eprint(name)?;
+            to.eprint(" or ")?;
+        }
+    }
+    to.eprintln("standard output")
+}
+
+/// Says on standard error what a status means that comes without an answer, and nothing with one. The number is that of the input that could
+/// not be read.
 ///
 /// # Errors
 ///
 /// A fault of writing. A part may have been written.
 #[inline(never)]
-pub fn explain<E: Eprint>(to: &E, status: u8, words: &[String]) -> Result<()> {
+pub fn explain<E: Eprint>(to: &E, status: u8, words: &[String], number: usize) -> Result<()> {
     if status == Status::Words.code() {
         return forms(to);
     }
     match status {
-        READ_FAULT => inputs(to, words),
-        WRITE_FAULT => to.eprintln("dlk: the answer could not be written whole"),
+        READ_FAULT => inputs(to, words, number),
+        WRITE_FAULT => outputs(to, words),
         NO_MEMORY => to.eprintln("dlk: memory ran out"),
         NO_WORDS => to.eprintln("dlk: there was no memory for the words of the command line"),
         _ => Ok(()),

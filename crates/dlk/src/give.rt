@@ -19,6 +19,7 @@ fn write_output<D: Desk>(desk: &mut D, name: Option<&str>, reply: &Reply) -> Res
     ensures silent { D.tells → (D.outside desk.new).printed ≡ (D.outside desk.old).printed }
     ensures quiet { (D.outside desk.new).print_faults ≡ (D.outside desk.old).print_faults }
     ensures fault { OnErr result (Rose (D.outside desk.old).write_faults (D.outside desk.new).write_faults) }
+    ensures file_fault { OnErr result (Rose (D.outside desk.old).file_faults (D.outside desk.new).file_faults) }
     ensures only { OnlyWrites D.tells (D.outside desk.old) (D.outside desk.new) }
 {
     let Some(name) = name else {
@@ -36,8 +37,8 @@ fn write_output<D: Desk>(desk: &mut D, name: Option<&str>, reply: &Reply) -> Res
 /// # Errors
 ///
 /// [`Failed`] where the file could not be written whole, or what is printed not printed whole. It comes only where the
-/// desk's count of faults of writing or that of printing rose. A front of the file, and behind the whole file a front of
-/// what is printed, was given. Where printing failed the file is whole.
+/// desk's count of faults of writing rose. A front of the file, and behind the whole file a front of what is printed, was
+/// given. Where printing failed the file is whole.
 #[inline(never)]
 pub fn give<D: Desk>(desk: &mut D, name: Option<&str>, reply: &Reply) -> Result<(), Failed>
     ensures file { let output = output_with (option_copied name.entry) (reply_of reply.now).written in OnOk result (D.tells → SameFiles (after output (D.outside desk.old).files) (D.outside desk.new).files) }
@@ -49,7 +50,7 @@ pub fn give<D: Desk>(desk: &mut D, name: Option<&str>, reply: &Reply) -> Result<
     ensures file_kept { let output = output_with (option_copied name.entry) (reply_of reply.now).written in D.tells →
         SameFiles (after output (D.outside desk.old).files) (D.outside desk.new).files ⊎ OnlyWriteFailed (D.outside desk.old) (D.outside desk.new) }
     ensures none { IsNone (output_with (option_copied name.entry) (reply_of reply.now).written) → StartsNoWrite D.tells (D.outside desk.old) (D.outside desk.new) }
-    ensures fault { OnErr result (Rose (D.outside desk.old).write_faults (D.outside desk.new).write_faults ⊎ Rose (D.outside desk.old).print_faults (D.outside desk.new).print_faults) }
+    ensures fault { OnErr result (Rose (D.outside desk.old).write_faults (D.outside desk.new).write_faults) }
     ensures only { OnlyWrites D.tells (D.outside desk.old) (D.outside desk.new) }
 {
     write_output(desk, name, reply)?;

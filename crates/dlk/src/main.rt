@@ -100,13 +100,13 @@ fn main(rt: HostRuntime) -> ExitCode {
     ];
     let alloc = rt.alloc();
     let Ok(all) = command_line(&rt) else {
-        let _ = explain(&rt, NO_WORDS, &[]);
+        let _ = explain(&rt, NO_WORDS, &[], 0);
         return exit_code(NO_WORDS);
     };
     let words = behind_the_name(all);
     let mut desk = HostDesk::new(rt, alloc);
     let status = start::<HostDesk<HostRuntime>, Brand>(alloc, &words, &mut desk, Blank::new(1));
-    let _ = explain(&rt, status, &words);
+    let _ = explain(&rt, status, &words, desk.failed_input());
     exit_code(status)
 }
 

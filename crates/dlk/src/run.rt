@@ -124,7 +124,7 @@ pub fn run<D: Desk, L: Ledger>(
     ensures trims_truly { D.tells → TrimsTruly (map string_bytes words.now) result (D.outside desk.old) (D.outside desk.new) }
     // What `session` prints are the replies to the script's lines in turn, and what it saves is accepted by `check`.
     ensures sessions_truly { D.tells → SessionsTruly (map string_bytes words.now) result (D.outside desk.old) (D.outside desk.new) }
-    // On every desk: status 3 has wrong words as its cause, 4 a read fault and 5 a fault of writing or of printing, and no status is above 6.
+    // On every desk: status 3 has wrong words as its cause, 4 a read fault and 5 a write fault, and no status is above 6.
     ensures caused { Caused (map string_bytes words.now) result (D.outside desk.old) (D.outside desk.new) }
     // On every desk: what is asked for are the inputs of the words in their order, and of the last of them little is taken.
     ensures asks { Asks D.tells (map string_bytes words.now) result (D.outside desk.old) (D.outside desk.new) }
@@ -134,7 +134,7 @@ pub fn run<D: Desk, L: Ledger>(
     ensures lacks { D.tells → (HasInputs (map string_bytes words.now) (D.outside desk.old) → ⊥) → (result ≡ 4) ⊎ (result ≡ 6) }
     // Where the inputs are there: the answer, or a fault, or want of memory. A file that was written whole stays so where printing fails.
     ensures answered { D.tells → HasInputs (map string_bytes words.now) (D.outside desk.old) → Answered (map string_bytes words.now) result (D.outside desk.old) (D.outside desk.new) }
-    // Where moreover no count of faults rose: the answer, or want of memory.
+    // Where moreover neither count of faults rose: the answer, or want of memory.
     ensures completes { D.tells → HasInputs (map string_bytes words.now) (D.outside desk.old) → Completes (map string_bytes words.now) result (D.outside desk.old) (D.outside desk.new) }
     // Where well-formed pairs make nothing, or a tree past a limit, few nodes were looked at.
     ensures looks { D.tells → LooksAtFew (map string_bytes words.now) result (D.outside desk.old) (D.outside desk.new) steps.old steps.new }

@@ -1,4 +1,5 @@
 // The program over a desk in memory.
+mod limits;
 mod starving;
 
 ghost use Rattle.std.specs.Prelude.{◌≤◌};
@@ -225,6 +226,37 @@ fn tells_faults_of_the_outside(rt: HostRuntime) -> Result<(), Fail> {
     Ok(())
 }
 
+/// `convert` while one call fails: the status, and by how much each count rose. A fault of writing a file and one of printing each raise the count
+/// of write faults, and one of the two beside it. The term is read in two calls behind the one that begins; one call moves all that is written, and
+/// one all that is printed. Without a failing call, and behind the last one, no count rises.
+#[test]
+fn counts_the_call_that_fails(rt: HostRuntime) -> Result<(), Fail> {
+    let alloc = rt.alloc();
+    for (name, call, status, reads, writes, files, prints) in [
+        ("start_read", 1, 4, 1, 0, 0, 0),
+        ("read", 2, 4, 1, 0, 0, 0),
+        ("read at the end", 3, 4, 1, 0, 0, 0),
+        ("start_write", 4, 5, 0, 1, 1, 0),
+        ("append", 5, 5, 0, 1, 1, 0),
+        ("print", 6, 5, 0, 1, 0, 1),
+        ("none", 7, 1, 0, 0, 0, 0),
+    ] {
+        let term = b"1 start ==> x>=0\ndone\n".as_slice();
+        let mut desk = desk_of(alloc, b"x>=0", term, 1_000, &[call])?;
+        let found = status_of(alloc, &["convert", "term", "out"], &mut desk)?;
+        assert_eq!(rt; found, status, "{name}");
+        assert_eq!(rt; desk.read_faults(), reads, "{name}");
+        assert_eq!(rt; desk.write_faults(), writes, "{name}");
+        assert_eq!(rt; desk.file_faults(), files, "{name}");
+        assert_eq!(rt; desk.print_faults(), prints, "{name}");
+    }
+    let mut desk = desk_of(alloc, b"x>=0", b"", 1_000, &[])?;
+    assert_eq!(rt; status_of(alloc, &["print", "nothing"], &mut desk)?, 4);
+    assert_eq!(rt; desk.read_faults(), 1);
+    assert_eq!(rt; desk.write_faults(), 0);
+    Ok(())
+}
+
 /// A reply with a file: in one call the write begins, in four the seven bytes are written, in three the five are printed.
 #[test]
 fn gives_files_first(rt: HostRuntime) -> Result<(), Fail> {
@@ -402,6 +434,8 @@ fn keeps_the_file_where_printing_fails(rt: HostRuntime) -> Result<(), Fail> {
                 failed = failed.saturating_add(1);
                 assert_eq!(rt; status, 5, "call {call}");
                 assert_eq!(rt; desk.file("out"), whole.file("out"), "call {call}");
+                assert_eq!(rt; desk.write_faults(), 1, "call {call}");
+                assert_eq!(rt; desk.file_faults(), 0, "call {call}");
             }
         }
         assert_eq!(rt; failed, whole.printed().len().div_ceil(7));

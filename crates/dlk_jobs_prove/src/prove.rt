@@ -22,6 +22,7 @@ use dlk_store::{Id, Steps, Store};
 use dlk_strategy::{Done, RunFault, run_is_taken, run_shows_formula, run_strategy};
 use dlk_tacsyn::{TacSyntax, Tactic, strategy};
 use std::alloc::Global;
+use std::mem::forget;
 use std::sync::ledger::Ledger;
 
 /// The answer to a text that is no strategy.
@@ -114,7 +115,8 @@ fn prove_on<S: Store, L: Ledger>(
     finish(alloc, kernel, done.fact, done.steps.as_slice(), steps)
 }
 
-/// Runs a strategy on a model. The reply has the report, and the text of the term to be written.
+/// Runs a strategy on a model. The reply has the report, and the text of the term to be written. The kernel's memory isn't given back,
+/// since the program ends behind this.
 ///
 /// # Errors
 ///
@@ -129,5 +131,7 @@ pub fn prove<L: Ledger>(
     ensures { IfOk result (λ r. Proves model.now strategy.now (reply_of r)) }
 {
     let mut kernel = Kernel::new(alloc, SharedStore::new(alloc));
-    answer_of(prove_on(alloc, &mut kernel, model, strategy, steps))
+    let answer = answer_of(prove_on(alloc, &mut kernel, model, strategy, steps));
+    forget(kernel);
+    answer
 }

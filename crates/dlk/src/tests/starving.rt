@@ -38,8 +38,7 @@ fn is_kept(desk: &MemoryDesk, status: u8, wanted: u8, printed: &str) -> bool {
     if desk.starved() > 0 {
         return match status {
             4 => desk.read_faults() > 0 && is_silent(desk),
-            5 => (desk.write_faults() > 0 || desk.print_faults() > 0)
-                && printed.as_bytes().starts_with(desk.printed()),
+            5 => desk.write_faults() > 0 && printed.as_bytes().starts_with(desk.printed()),
             _ => false,
         };
     }
@@ -103,7 +102,7 @@ fn answers_whole_or_nothing(rt: HostRuntime) -> Result<(), Fail> {
         // A file is written whole before anything is printed.
         let is_written = (ended == status || desk.print_faults() > 0) && words.len() == 4;
         assert!(rt;
-            desk.write_faults() > 0 || has_term(&desk, is_written),
+            desk.file_faults() > 0 || has_term(&desk, is_written),
             "{second}"
         );
     }

@@ -51,6 +51,7 @@ fn reads_and_writes_real_files(rt: HostRuntime) -> Result<(), Fail> {
     assert_eq!(rt; count, 8);
     assert_eq!(rt; desk.faults.reads, 1);
     assert_eq!(rt; desk.faults.writes, 2);
+    assert_eq!(rt; desk.faults.files, 2);
     assert_eq!(rt; desk.faults.prints, 0);
 
     fs::remove_file(&rt, "desk_input.txt")?;

@@ -44,6 +44,7 @@ struct Row {
     out: Option<&'static [u8]>,
     read_faults: u64,
     write_faults: u64,
+    file_faults: u64,
     print_faults: u64,
 }
 
@@ -67,6 +68,7 @@ const ROWS: &[Row] = &[
         out: Some(b"abcdef"),
         read_faults: 1,
         write_faults: 0,
+        file_faults: 0,
         print_faults: 0,
     },
     Row {
@@ -87,6 +89,7 @@ const ROWS: &[Row] = &[
         out: Some(b"a"),
         read_faults: 1,
         write_faults: 0,
+        file_faults: 0,
         print_faults: 0,
     },
     Row {
@@ -107,6 +110,7 @@ const ROWS: &[Row] = &[
         out: Some(b""),
         read_faults: 2,
         write_faults: 1,
+        file_faults: 1,
         print_faults: 0,
     },
     Row {
@@ -117,7 +121,8 @@ const ROWS: &[Row] = &[
         printed: b"",
         out: Some(b"abc"),
         read_faults: 2,
-        write_faults: 0,
+        write_faults: 1,
+        file_faults: 0,
         print_faults: 1,
     },
     Row {
@@ -129,6 +134,7 @@ const ROWS: &[Row] = &[
         out: None,
         read_faults: 1,
         write_faults: 1,
+        file_faults: 1,
         print_faults: 0,
     },
 ];
@@ -153,6 +159,7 @@ fn moves_pieces_and_fails_where_told(rt: HostRuntime) -> Result<(), Fail> {
         assert!(rt; desk.file("missing").is_none());
         assert_eq!(rt; desk.read_faults(), row.read_faults);
         assert_eq!(rt; desk.write_faults(), row.write_faults);
+        assert_eq!(rt; desk.file_faults(), row.file_faults);
         assert_eq!(rt; desk.print_faults(), row.print_faults);
         assert_eq!(rt; desk.starved(), 0);
     }

@@ -4,5 +4,5 @@ use Rattle.dlk_jobs_check.proofs.check.check.Goals as goal
 
 pub returns : goal.returns
 returns g c =
-    answers_so (Checks c.args.showing c.args.model.now c.args.term.now) c.check_on.result c.answer_of.result c.answer_of.ensures c.check_on.ensures.reply
-    c.check_on.ensures.ended
+    answers_so (Checks c.args.showing c.args.model.now c.args.term.now) c.check_on.result c.answer_of-answer.result c.answer_of-answer.ensures
+    c.check_on.ensures.reply c.check_on.ensures.ended

@@ -4,5 +4,5 @@ use Rattle.dlk_jobs_prove.proofs.prove.prove.Goals as goal
 
 pub returns : goal.returns
 returns g c =
-    answers_so (Proves c.args.model.now c.args.strategy.now) c.prove_on.result c.answer_of.result c.answer_of.ensures c.prove_on.ensures.reply
+    answers_so (Proves c.args.model.now c.args.strategy.now) c.prove_on.result c.answer_of-answer.result c.answer_of-answer.ensures c.prove_on.ensures.reply
     c.prove_on.ensures.ended
