@@ -434,7 +434,8 @@ def table(heads: Sequence[str], rows: Sequence[Sequence[str]]) -> str:
 
 def run_of(run: runs.Run) -> Section:
     """A run that breaks the model, as a table that can be followed by hand, and its picture."""
-    rows = [runs.Row("at first", said=runs.values_text(run.first)), *runs.step_rows(run), runs.Row("fails", run.fails, said="; ".join(run.sides))]
+    first = [runs.Row("at first", said=runs.values_text(run.first))] if run.first else []
+    rows = [*first, *runs.step_rows(run), runs.Row("fails", run.fails, said="; ".join(run.sides))]
     cells = [[row.heading, code(row.statement), html.escape(row.time), code(row.said)] for row in rows]
     note = "It can be followed by hand. A number with ~ before it is rounded."
     picture = plot.drawn(run)

@@ -9,6 +9,7 @@ import importlib.util
 import io
 import logging
 import random
+import warnings
 from pathlib import Path
 from typing import BinaryIO, NamedTuple, Sequence
 
@@ -126,15 +127,17 @@ def short(formula: str) -> str:
 
 
 def drawn(run: Run) -> str:
-    """The picture of a run as a part of a page; nothing where it can't be drawn."""
-    if not is_there():
+    """The picture of a run as a part of a page; nothing where no time passes, or it can't be drawn."""
+    if not is_there() or not any(step.duration and step.duration.near for step in run.steps):
         return ""
     logging.getLogger("matplotlib").setLevel(logging.ERROR)  # that it looks for fonts is no complaint
     out = io.BytesIO()
-    try:
-        draw(run, out)
-    except (ArithmeticError, Unsupported):
-        return ""
+    with warnings.catch_warnings():
+        warnings.simplefilter("ignore")
+        try:
+            draw(run, out)
+        except (ArithmeticError, Unsupported):
+            return ""
     said = out.getvalue().decode()
     return said[said.index("<svg") :]
 
