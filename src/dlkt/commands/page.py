@@ -184,6 +184,17 @@ def source(data: bytes) -> str:
     return f'<span class="text">{html.escape(data.decode("utf-8", "replace"))}</span>'
 
 
+def code(text: str) -> str:
+    """A formula, a statement or values, which the page's script sets."""
+    return f'<code class="text">{html.escape(text)}</code>' if text else ""
+
+
+def table(heads: Sequence[str], rows: Sequence[Sequence[str]]) -> str:
+    """A table of cells."""
+    first = "".join(f"<th>{head}</th>" for head in heads)
+    return f"<table><tr>{first}</tr>" + "".join(f"<tr>{''.join(f'<td>{cell}</td>' for cell in row)}</tr>" for row in rows) + "</table>"
+
+
 class Section(NamedTuple):
     """A section of a page: its name for links, its heading, and what it has."""
 
@@ -238,8 +249,8 @@ def said_of_proof(found: Found, proof: Proof) -> str:
 def said_of_lemmas(proof: Proof) -> str:
     """Which lines of a linked proof are those of lemmas."""
     rows = "".join(
-        f"<div>lines {lemma.first:,} to {lemma.last:,}: {counted(lemma.goals, 'goal')} proved with "
-        f'<code class="text">{html.escape(lemma.conclusion)}</code></div>' for lemma in proof.lemmas
+        f"<div>lines {lemma.first:,} to {lemma.last:,}: {counted(lemma.goals, 'goal')} proved with {code(lemma.conclusion)}</div>"
+        for lemma in proof.lemmas
     )
     return f"<b>linked</b>. This proof has lemmas that were proved by themselves and put in: {rows}"
 
@@ -371,13 +382,13 @@ def visits(found: Found) -> list[list[object]]:
 
 def files(all_of: Mapping[str, bytes], note: str, known: Sequence[str] = ()) -> Section:
     """The files, with what is needed to check them again. The script has those that are known."""
-    rows = "".join(
-        f'<tr><td>{name}</td><td class="number">{len(data):,}</td><td><code class="hash">{hashlib.sha256(data).hexdigest()}</code></td>'
-        f'<td><button data-file="{name}">save</button></td></tr>' for name, data in all_of.items() if data
-    )
+    rows = [
+        [name, f"{len(data):,}", f'<code class="hash">{hashlib.sha256(data).hexdigest()}</code>', f'<button data-file="{name}">save</button>']
+        for name, data in all_of.items() if data
+    ]
     texts = {name: data.decode("latin-1") for name, data in all_of.items() if data and name not in known}
     return Section("files", "Files", (
-        f"<table><tr><th>File</th><th>Bytes</th><th>sha256</th><th></th></tr>{rows}</table>"
+        table(("File", "Bytes", "sha256", ""), rows) +
         f'<p class="note">This page was made by a script of which nothing is proved, and checks nothing itself. {note}</p>'
         f'<script type="application/json" id="texts">{script_data(texts)}</script>'
     ))
@@ -420,17 +431,6 @@ def page(found: Found) -> str:
 
 
 # Where no proof is found
-
-def code(text: str) -> str:
-    """A formula, a statement or values, which the page's script sets."""
-    return f'<code class="text">{html.escape(text)}</code>' if text else ""
-
-
-def table(heads: Sequence[str], rows: Sequence[Sequence[str]]) -> str:
-    """A table of cells."""
-    first = "".join(f"<th>{head}</th>" for head in heads)
-    return f"<table><tr>{first}</tr>" + "".join(f"<tr>{''.join(f'<td>{cell}</td>' for cell in row)}</tr>" for row in rows) + "</table>"
-
 
 def run_of(run: runs.Run) -> Section:
     """A run that breaks the model, as a table that can be followed by hand, and its picture."""
