@@ -2,6 +2,7 @@
 
 import hashlib
 import html
+import importlib.util
 import json
 import re
 import shutil
@@ -12,6 +13,9 @@ from pathlib import Path
 
 from helping import BRAKE, CHOICE, CLOSES_BRAKE, CLOSES_CHOICE, CLOSES_INCREMENT, INCREMENT, PROGRAM, ROOT, Case, needs_program
 
+from searching import SearchCase, needs_search
+
+from dlkt import semantics
 from dlkt.commands import page
 from dlkt.commands import tree as prooftree
 from dlkt.program import answer
@@ -21,8 +25,8 @@ from dlkt.verdict import Options, Source, verdict_on
 from dlkt.words import made_by, runs_in
 
 ONE_MEGABYTE = 1_000_000
-# Has the scripts of a page run on a document that isn't there, and prints the rows of the tree, and then the lines of the term.
-RUN_SCRIPTS = r"""
+# Has the scripts of a page run on a document that isn't there.
+RUN = r"""
 const html = require("fs").readFileSync(process.argv[1], "utf8");
 const script = [...html.matchAll(/<script>([\s\S]*?)<\/script>/g)].map(found => found[1]).join("\n");
 const elements = {};
@@ -30,6 +34,9 @@ const element = id => elements[id] = elements[id] || { style: {}, dataset: {}, c
 global.addEventListener = () => {};
 elements.texts = { textContent: "{}" };
 global.document = { getElementById: id => id === "fails" ? null : element(id), querySelectorAll: () => [], body: element("body") };
+"""
+# Prints the rows of the tree, and then the lines of the term.
+RUN_SCRIPTS = RUN + r"""
 eval(script + ";for (let k = 1; k < steps.length; k++) console.log(stepText(k));"
   + "console.log(nodes.map((node, n) => JSON.stringify(rowText(node[TEXT], n ? nodes[parent[n]][TEXT] : 0))).join('\\n'));"
   + "console.log(nodes.map(node => setSequent(node[TEXT]).replace(/<[^>]*>/g, '')).join('\\n').replace(/&lt;/g, '<').replace(/&gt;/g, '>').length)");
@@ -46,7 +53,7 @@ class Tags(HTMLParser):
         self.open, self.wrong, self.loads, self.said = [], [], [], []
 
     def handle_starttag(self, tag, attrs):
-        self.loads += [value for name, value in attrs if name in ("src", "href") and not value.startswith("#")]
+        self.loads += [value for name, value in attrs if name.endswith(("src", "href")) and not value.startswith("#")]
         if tag not in VOID:
             self.open.append(tag)
 
@@ -96,7 +103,18 @@ def plain(marked):
     return html.unescape(re.sub(r"<[^>]*>", "", marked))
 
 
-class Page(Case):
+class Looking:
+    """How a page is looked at."""
+
+    def well_made(self, text):
+        """The tags of a page, which must be well made and load nothing."""
+        tags = looked_at(text)
+        self.assertEqual((tags.open, tags.wrong, tags.loads), ([], [], []))
+        self.assertIsNone(re.search(r"@import|url\((?!#)|@[A-Z]+@", text))
+        return tags
+
+
+class Page(Looking, Case):
     """A page, made with a solver of the test."""
 
     def setUp(self):
@@ -106,13 +124,6 @@ class Page(Case):
     def made(self, model, strategy, *words):
         """How the page of these texts ends."""
         return self.tool("page", self.file("car", model), self.file("strategy", strategy), *words)
-
-    def well_made(self, text):
-        """The tags of a page, which must be well made and load nothing."""
-        tags = looked_at(text)
-        self.assertEqual((tags.open, tags.wrong, tags.loads), ([], [], []))
-        self.assertIsNone(re.search(r"@import|url\(|@[A-Z]+@", text))
-        return tags
 
 
 @needs_program
@@ -258,6 +269,65 @@ class Pages(Page):
         self.assertIn("<title>A step: verified</title>", target.read_text())
 
 
+@needs_search
+@unittest.skipUnless(semantics.is_there(), semantics.NEEDED)
+class OfSearch(Looking, SearchCase):
+    """The pages of `dlkt verify` where no proof is named."""
+
+    def shown(self, model, status, *wanted):
+        """The text of the page of a model for which the verdict has this status, and what it says: all that is wanted."""
+        run = self.tool("verify", model, "--page", self.folder / "page.html")
+        self.assertEqual((run.returncode, run.stderr), (status, ""))
+        text = (self.folder / "page.html").read_text()
+        said = "".join(self.well_made(text).said)
+        for one in (*wanted, *(hashlib.sha256(Path(file).read_bytes()).hexdigest() for file in (model, PROGRAM))):
+            self.assertIn(one, said)
+        self.assertEqual(json.loads(re.search(r'id="texts">(.*?)</script>', text)[1])["model"], Path(model).read_text())
+        return text, said
+
+    def test_a_run_that_breaks_the_model(self):
+        model = ROOT / "examples" / "search" / "false_tank" / "model"
+        text, _ = self.shown(model, 5, "false_tank: refuted", "a run breaks the model", "the loop's body breaks @invariant")
+        rows = [[plain(cell) for cell in re.findall("<td>(.*?)</td>", row)] for row in re.findall("<tr>(.*?)</tr>", text)]
+        self.assertEqual(rows[1:7], [
+            ["at first", "", "", "l = 0, L() = 1, f() = 1, T() = 1, t = 0, q = 0"],
+            ["round 1", "?l+f()*T()<=L();", "", "holds"],
+            ["", "q:=2*f();", "", "q = 2"],
+            ["", "t:=0;", "", "t = 0"],
+            ["", "{l'=q,t'=1&t<=T()}", "for 1", "l = 2, t = 1"],
+            ["fails", "l<=L()", "", "2 <= 1"],
+        ])
+        self.assertEqual(text.count("<svg"), int(importlib.util.find_spec("matplotlib") is not None))
+        if shutil.which("node"):
+            run = subprocess.run([shutil.which("node"), "-e", f"{RUN}\neval(script)", self.folder / "page.html"], capture_output=True, text=True, check=False)
+            self.assertEqual((run.returncode, run.stderr), (0, ""))
+
+    def test_a_run_by_numbers(self):
+        _, said = self.shown(self.file("model", "x^2+y^2=r()^2 -> [{x'=y,y'=x}]x^2+y^2=r()^2\n"), 5, ": refuted", "It isn't exact: look at it.")
+        told = re.findall(r"by numbers: simulated with steps of at most [0-9.]+, and false by [0-9.]+\. It isn't exact", said)
+        self.assertEqual(len(told), 2)
+
+    def test_no_proof(self):
+        wanted = ("no way on: x>=0 ==> f(x)>=0", "no rule takes what stands on the right apart", "a run that breaks the model", "nothing found: ")
+        self.shown(self.file("model", "x>=0 -> [x:=f(x);]x>=0\n"), 1, ": not verified", *wanted)
+
+    def test_a_proof(self):
+        self.shown(self.file("model", INCREMENT), 0, "verified", "closed, guarded, 1 leaf valid")
+
+    def test_nothing_is_written_over(self):
+        model = self.file("model", "x>0 -> [x:=x-1;]x>0\n")
+        for target in (self.file("other", "a text that took a day\n"), model):
+            before = Path(target).read_text()
+            run = self.tool("verify", model, "--page", target)
+            self.assertEqual((run.returncode, run.stdout, run.stderr.count("\n")), (4, "", 1))
+            self.assertEqual(Path(target).read_text(), before)
+
+    def test_of_a_sketch_that_does_not_do_there_is_none(self):
+        target = self.folder / "page.html"
+        run = self.tool("verify", self.file("model", "x>0 -> [x:=x-1;]x>0\n"), self.file("sketch", "implyR(1); auto\n"), "--page", target)
+        self.assertEqual((run.returncode in (1, 5), target.exists()), (True, False))
+
+
 class Parts(unittest.TestCase):
     def test_a_strategy_that_is_shortened(self):
         for source, word, wanted in (
@@ -287,9 +357,7 @@ class Typesetting(unittest.TestCase):
 
     def set(self, texts):
         """The texts as they are set."""
-        formulas, typeset = ((ROOT / "src" / "dlkt" / "pages" / name).read_text() for name in ("formulas.js", "typeset.js"))
-        escaped = formulas[formulas.index("const escaped ="):]
-        asked = f"{escaped}\n{typeset}\nconsole.log(JSON.stringify(JSON.parse(require('fs').readFileSync(0)).map(setFormula)));"
+        asked = f"{prooftree.part('escaped.js', 'typeset.js')}\nconsole.log(JSON.stringify(JSON.parse(require('fs').readFileSync(0)).map(setFormula)));"
         run = subprocess.run([shutil.which("node"), "-e", asked], input=json.dumps(texts), capture_output=True, text=True, check=True)
         return json.loads(run.stdout)
 

@@ -6,6 +6,8 @@
 PROOF is a strategy, or a term. What the page has is told in docs/INSTALL.md ("A page to hand on"). Each formula stands on it once: what is shown of
 goals and leaves is made from there, by the page's script. A PAGE that is an input, or has something else than a page in it, isn't written over.
 
+`dlkt verify --page` writes such a page, too; where it finds no proof, one on the run that breaks the model, or on what was tried.
+
 The exit status is 0 where a page is written, also of a proof that isn't verified, 2 where there is no proof to write of, or none can be
 made, in one line that says why, and 130 behind control-C. Nothing of this is proved, but what the program proves.
 """
@@ -18,7 +20,7 @@ import tempfile
 from concurrent.futures import ThreadPoolExecutor
 from functools import cached_property
 from pathlib import Path
-from typing import NamedTuple, Sequence
+from typing import TYPE_CHECKING, Mapping, NamedTuple, Sequence
 
 from dlkt import reader, strategies
 from dlkt.commands.print import printed_model
@@ -27,10 +29,15 @@ from dlkt.commands.verify import source_of, why_refused, why_unguarded
 from dlkt.layout import WIDTH
 from dlkt.leaves import listed
 from dlkt.program import Position, Refused, add_options, answer, has_report, position, program_of, report_of
+from dlkt.semantics import plot, runs
 from dlkt.strategies import Branch, Choice, Part
 from dlkt.terms import in_version_1
-from dlkt.verdict import Fault, Guard, Kind, Leaf, Options, Proof, Verdict, counted, verdict_on
+from dlkt.verdict import Fault, Guard, Kind, Leaf, Options, Proof, Source, Verdict, counted, verdict_on
 from dlkt.words import Run, runs_in
+
+if TYPE_CHECKING:
+    from dlkt.search.finding import Found as Search
+    from dlkt.search.proofs import NotFound
 
 # Of how many runs of a word the goals are shown.
 GOALS_SHOWN = 4
@@ -177,14 +184,44 @@ def source(data: bytes) -> str:
     return f'<span class="text">{html.escape(data.decode("utf-8", "replace"))}</span>'
 
 
-def model(data: bytes) -> str:
+def code(text: str) -> str:
+    """A formula, a statement or values, which the page's script sets."""
+    return f'<code class="text">{html.escape(text)}</code>' if text else ""
+
+
+def table(heads: Sequence[str], rows: Sequence[Sequence[str]]) -> str:
+    """A table of cells."""
+    first = "".join(f"<th>{head}</th>" for head in heads)
+    return f"<table><tr>{first}</tr>" + "".join(f"<tr>{''.join(f'<td>{cell}</td>' for cell in row)}</tr>" for row in rows) + "</table>"
+
+
+class Section(NamedTuple):
+    """A section of a page: its name for links, its heading, and what it has."""
+
+    name: str
+    heading: str
+    text: str
+
+
+def model(data: bytes) -> Section:
     """The model, laid out."""
-    return source(printed_model(data.decode("latin-1"), WIDTH).encode("latin-1"))
+    return Section("model", "Model", f'<pre class="source">{source(printed_model(data.decode("latin-1"), WIDTH).encode("latin-1"))}</pre>')
 
 
 def rest_of(name: str, said: str) -> str:
     """A line of what the verdict rests on."""
     return f"<dt>{name}</dt><dd>{said}</dd>"
+
+
+def resting(rows: Sequence[str]) -> Section:
+    """The section that these lines are."""
+    return Section("rests", "What it rests on", "\n".join(["<dl>", *rows, "</dl>"]))
+
+
+def rest_of_program(path: str) -> str:
+    """The line of the program."""
+    data = Path(path).read_bytes()
+    return rest_of("Program", f'dlk, {len(data):,} bytes, sha256 <span class="hash">{hashlib.sha256(data).hexdigest()}</span>')
 
 
 def where(place: Position) -> str:
@@ -212,8 +249,8 @@ def said_of_proof(found: Found, proof: Proof) -> str:
 def said_of_lemmas(proof: Proof) -> str:
     """Which lines of a linked proof are those of lemmas."""
     rows = "".join(
-        f"<div>lines {lemma.first:,} to {lemma.last:,}: {counted(lemma.goals, 'goal')} proved with "
-        f'<code class="text">{html.escape(lemma.conclusion)}</code></div>' for lemma in proof.lemmas
+        f"<div>lines {lemma.first:,} to {lemma.last:,}: {counted(lemma.goals, 'goal')} proved with {code(lemma.conclusion)}</div>"
+        for lemma in proof.lemmas
     )
     return f"<b>linked</b>. This proof has lemmas that were proved by themselves and put in: {rows}"
 
@@ -236,7 +273,7 @@ def said_of_guard(guard: Guard) -> str:
     return f'<b class="bad">{html.escape(guard.text)}</b>{html.escape(why_unguarded(guard))}.{made}'
 
 
-def rests(found: Found) -> str:
+def rests(found: Found) -> Section:
     """What the verdict rests on, or what is known of the parts of one that isn't."""
     verdict, rows = found.verdict, list[str]()
     if isinstance(verdict.found, Fault):
@@ -248,9 +285,9 @@ def rests(found: Found) -> str:
     if verdict.guard:
         rows.append(rest_of("Guard", said_of_guard(verdict.guard)))
         rows.append(rest_of("Leaves", leaves_in_short(verdict)))
-    data = Path(found.program).read_bytes()
-    rows.append(rest_of("Program", f'dlk, {len(data):,} bytes, sha256 <span class="hash">{hashlib.sha256(data).hexdigest()}</span>'))
-    return "\n".join([*rows, *(rest_of("Hint", f"{html.escape(where(hint.place))}: {html.escape(hint.text)}") for hint in verdict.hints)])
+    rows.append(rest_of_program(found.program))
+    rows += [rest_of("Hint", f"{html.escape(where(hint.place))}: {html.escape(hint.text)}") for hint in verdict.hints]
+    return resting(rows)
 
 
 def by_solvers(verdict: Verdict) -> str:
@@ -343,23 +380,25 @@ def visits(found: Found) -> list[list[object]]:
     return told
 
 
-def files(found: Found) -> str:
-    """The files, with what is needed to check them again."""
+def files(all_of: Mapping[str, bytes], note: str, known: Sequence[str] = ()) -> Section:
+    """The files, with what is needed to check them again. The script has those that are known."""
+    rows = [
+        [name, f"{len(data):,}", f'<code class="hash">{hashlib.sha256(data).hexdigest()}</code>', f'<button data-file="{name}">save</button>']
+        for name, data in all_of.items() if data
+    ]
+    texts = {name: data.decode("latin-1") for name, data in all_of.items() if data and name not in known}
+    return Section("files", "Files", (
+        table(("File", "Bytes", "sha256", ""), rows) +
+        f'<p class="note">This page was made by a script of which nothing is proved, and checks nothing itself. {note}</p>'
+        f'<script type="application/json" id="texts">{script_data(texts)}</script>'
+    ))
+
+
+def files_of(found: Found) -> Section:
+    """The files of a proof."""
     all_of = {"model": found.verdict.model.data, "strategy": found.strategy, "term": found.term}
-    rows = "".join(
-        f'<tr><td>{name}</td><td class="number">{len(data):,}</td><td><code class="hash">{hashlib.sha256(data).hexdigest()}</code></td>'
-        f'<td><button data-file="{name}">save</button></td></tr>' for name, data in all_of.items() if data
-    )
-    texts = {name: data.decode("latin-1") for name, data in all_of.items() if data}
-    if texts["term"] == found.table.text():  # the script has it
-        del texts["term"]
-    note = "This page was made by a script of which nothing is proved, and checks nothing itself."
-    if found.verdict.guard:
-        note += " Whoever doubts it saves the model and the term, and asks <code>dlk guard model term</code>: the answer depends on these two files alone."
-    return (
-        f"<table><tr><th>File</th><th>Bytes</th><th>sha256</th><th></th></tr>{rows}</table>"
-        f'<p class="note">{note}</p><script type="application/json" id="texts">{script_data(texts)}</script>'
-    )
+    note = "Whoever doubts it saves the model and the term, and asks <code>dlk guard model term</code>: the answer depends on these two files alone."
+    return files(all_of, note if found.verdict.guard else "", ["term"] if found.term == found.table.text().encode("latin-1") else [])
 
 
 def verdict_line(verdict: Verdict) -> tuple[str, str, str]:
@@ -371,18 +410,82 @@ def verdict_line(verdict: Verdict) -> tuple[str, str, str]:
     return "good", "verified", f"closed, guarded, {said}" + (f".{linked}" if linked else "")
 
 
+def shell(title: str, said: tuple[str, str, str], sections: Sequence[Section], *scripts: str) -> str:
+    """The text of a page: the mood, the word and the reasons of its verdict, and these sections."""
+    mood, word, why = said
+    parts = {
+        "name": html.escape(title), "mood": mood, "word": word, "why": html.escape(why), "style": part("tree.css", "page.css"), "script": part(*scripts),
+        "links": "".join(f'<a href="#{one.name}">{one.heading}</a>' for one in sections),
+        "sections": "\n".join(f'<section id="{one.name}"><h2>{one.heading}</h2>\n{one.text}\n</section>' for one in sections),
+    }
+    return filled(part("page.html"), **parts)
+
+
 def page(found: Found) -> str:
     """The text of the page. The tree comes last, since it has the formulas of all other parts."""
-    mood, word, why = verdict_line(found.verdict)
-    parts = {
-        "name": html.escape(found.title), "mood": mood, "word": word, "why": html.escape(why),
-        "treestyle": part("tree.css"), "style": part("page.css"), "script": part("page.js"),
-        "model": model(found.verdict.model.data), "rests": rests(found), "leaves": leaves(found), "strategy": strategy(found),
-        "summary": summary(found.drawing), "files": files(found),
-    }
+    first = [model(found.verdict.model.data), rests(found), Section("strategy", "Strategy", strategy(found)), Section("leaves", "Leaves", leaves(found))]
     given: dict[str, object] = {"visits": visits(found)}
     given |= found.table.given(12, found.told)
-    return filled(part("page.html"), **parts, typeset=part("typeset.js"), tree=tree(given))
+    proof = Section("proof", "Proof", f'<p class="note">{summary(found.drawing)}.</p>\n{tree(given)}')
+    return shell(found.title, verdict_line(found.verdict), [*first, proof, files_of(found)], "typeset.js", "page.js", "goals.js")
+
+
+# Where no proof is found
+
+def run_of(run: runs.Run) -> Section:
+    """A run that breaks the model, as a table that can be followed by hand, and its picture."""
+    first = [runs.Row("at first", said=runs.values_text(run.first))] if run.first else []
+    rows = [*first, *runs.step_rows(run), runs.Row("fails", run.fails, said="; ".join(run.sides))]
+    cells = [[row.heading, code(row.statement), html.escape(row.time), code(row.said)] for row in rows]
+    note = "It can be followed by hand. A number with ~ before it is rounded."
+    picture = plot.drawn(run)
+    said = "Time goes across. Dashed are the sides of what fails; shaded are the systems, with their domains above."
+    figure = f"<figure>{picture}<figcaption>{said}</figcaption></figure>" if picture else ""
+    return Section("run", "A run that breaks it", f'<p class="note">{note}</p>{table(("", "Statement", "It ran", "Values then"), cells)}{figure}')
+
+
+def said_of_run(run: runs.Run) -> str:
+    """How the numbers of a run were computed."""
+    if not run.is_exact:
+        return f'<b class="bad">by numbers</b>: {runs.accuracy_text(run.accuracy)}. It isn\'t exact: look at it.'
+    return "<b>exact</b>. Each step was computed again with its numbers, by fractions, or by z3's exact arithmetic where a number is a root of a polynomial."
+
+
+def tried(result: "Search", program: str) -> Section:
+    """What a search tried that found nothing."""
+    told = result.told or {"status": "nothing found", "tried": "there was no answer in time"}
+    rows = [[step.method, html.escape(step.why), code(step.goal)] for step in result.story]
+    rows.append(["a run that breaks the model", html.escape(f"{told['status']}: {told['tried']}"), ""])
+    ends = "".join(f"<li>{html.escape(reason)}</li>" for reason in result.reasons)
+    return Section("tried", "What was tried", f"<ul>{ends}</ul>{table(('Method', 'What came of it', 'Goal'), rows)}<dl>{rest_of_program(program)}</dl>")
+
+
+def hints(those: Sequence[str]) -> Section:
+    """What is said of the model's annotations."""
+    note = "Each is looked at by itself, from any state in which it holds. The program may never come there: it is a hint and no more."
+    return Section("hints", "Annotations", f'<p class="note">{note}</p><ul>{"".join(f"<li>{html.escape(one)}</li>" for one in those)}</ul>')
+
+
+def page_without_proof(model_file: Source, found: "NotFound", program: str) -> str:
+    """The text of the page of a model that a run breaks, or for which no proof is found."""
+    told, sections = found.result.told or {}, [model(model_file.data)]
+    if found.is_refuted:
+        run = runs.run_of(told["run"])
+        by = "" if run.is_exact else f"by numbers: {runs.accuracy_text(run.accuracy)}. It isn't exact"
+        said, ask = ("bad", "refuted", by or "a run breaks the model"), "follows the run by hand, or saves the model and asks <code>dlkt refute model</code>"
+        sections += [run_of(run), resting([rest_of("Run", said_of_run(run)), rest_of_program(program)])]
+    else:
+        said, ask = ("bad", "not verified", "no proof is found"), "saves the model and asks <code>dlkt verify model</code>"
+        sections.append(tried(found.result, program))
+    sections += [hints(told["hints"])] if told.get("hints") else []
+    sections.append(files({"model": model_file.data}, f"Whoever doubts it {ask}."))
+    return shell(title_of(model_file.name), said, sections, "escaped.js", "typeset.js", "page.js")
+
+
+def written_without_proof(model_file: Source, found: "NotFound", path: str, program: str) -> None:
+    """Writes the page of a model for which no proof is found. Refused where the file is one that isn't written over."""
+    refuse_bad_page(path, (model_file.name, program))
+    write_page(path, page_without_proof(model_file, found, program))
 
 
 def written(verdict: Verdict, path: str, program: str | None = None, title: str | None = None) -> None:

@@ -310,9 +310,9 @@ class Goals:
 
 # The page
 
-def part(name: str) -> str:
-    """The text of one of the files of which pages are made."""
-    return (PAGES / name).read_text(encoding="utf-8").rstrip("\n")
+def part(*names: str) -> str:
+    """The text of files of which pages are made, one below the other."""
+    return "\n".join((PAGES / name).read_text(encoding="utf-8").rstrip("\n") for name in names)
 
 
 def filled(template: str, **parts: str) -> str:
@@ -401,7 +401,7 @@ def summary(drawing: Drawing) -> str:
 
 def tree(given: object) -> str:
     """The part of a page that has the tree: it wants the style `tree.css`."""
-    return filled(part("tree.html"), script=part("tree.js"), formulas=part("formulas.js"), data=script_data(given))
+    return filled(part("tree.html"), script=part("tree.js"), formulas=part("escaped.js", "formulas.js"), data=script_data(given))
 
 
 def page(drawing: Drawing, name: str, depth: int, told: Told) -> str:

@@ -1,6 +1,6 @@
 """One verdict on a model and its proof: proves it, asks the guard and the solvers, and says where it fails and what it rests on.
 
-    dlkt verify FILE [PROOF] [-o TERM] [-j N] [--all-solvers] [--seconds N] [--json] [--watch] [--dlk PROGRAM]
+    dlkt verify FILE [PROOF] [-o TERM] [--page OUT.html] [-j N] [--all-solvers] [--seconds N] [--json] [--watch] [--dlk PROGRAM]
 
 What it takes and prints, and its exit statuses, are told in docs/FILES.md ("One verdict"), what it does of an archive in docs/KEYMAERAX.md, and how it
 searches where no PROOF is named in docs/AUTO.md. Nothing here is proved but what the program proves: that the proof is closed, and what the
@@ -218,12 +218,16 @@ def source_of(name: str) -> Source:
 
 
 def options_of(options: argparse.Namespace) -> Options:
-    """How the verdict is found. Refused is a TERM that is an input, or has something else than a term in it."""
+    """How the verdict is found. Refused is a TERM that is an input, or has something else than a term in it, and so is such a page."""
     program, old = program_of(options.dlk), None
+    inputs = [name for name in (options.file, options.proof, program) if name]
     if options.output is not None:
-        inputs = [name for name in (options.file, options.proof, program) if name]
         refuse_bad_output(options.output, inputs, TERM_BEGINS, "a term")
         old = source_of(options.output) if Path(options.output).is_file() else None
+    if options.page is not None:
+        from dlkt.commands.tree import refuse_bad_page  # it takes a while
+
+        refuse_bad_page(options.page, inputs)
     return Options(program, options.seconds, options.jobs, options.all_solvers, old_term=old)
 
 
@@ -284,6 +288,10 @@ def once(options: argparse.Namespace) -> int:
         return on_archive(options)
     model, settings, proof = source_of(options.file), options_of(options), proof_of(options)
     if not isinstance(proof, Source):
+        if options.page is not None and options.proof is None:
+            from dlkt.commands.page import written_without_proof  # it takes a while
+
+            written_without_proof(model, proof, options.page, settings.program)
         return not_found(options, proof)
     saying = Saying(options)
     verdict = verdict_on(model, proof, settings, saying)
@@ -370,7 +378,7 @@ def add_words(parser: argparse.ArgumentParser) -> None:
     parser.add_argument("proof", metavar="PROOF", nargs="?", help="a strategy, a sketch, or a term; else one is searched for; none for an archive")
     parser.add_argument("--entry", metavar="NAME", help="of an archive, this entry alone")
     parser.add_argument("-o", "--output", metavar="TERM", help="where to put the term")
-    parser.add_argument("--page", metavar="OUT.html", help="write a page of the proof, to hand on")
+    parser.add_argument("--page", metavar="OUT.html", help="write a page to hand on, of the proof or of the run that breaks the model")
     add_options(parser, "-j")
     parser.add_argument("--all-solvers", action="store_true", help="wait for each solver, and print what it says")
     add_options(parser, "--seconds", "--json")

@@ -56,4 +56,3 @@ function stepText(number) {
   return `${front} ${sequentText([left, right].map(side => side.trim() ? side.trim().split(" ").map(Number) : []))}`;
 }
 const sequentText = ([left, right]) => [left.map(shortOf).join(", "), "==>", right.map(shortOf).join(", ")].filter(part => part).join(" ");
-const escaped = text => text.replace(/&/g, "&amp;").replace(/</g, "&lt;").replace(/>/g, "&gt;");

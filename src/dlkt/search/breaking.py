@@ -64,11 +64,12 @@ class Breaking:
         if self.apart is not None:
             self.told = self.apart.answer(seconds)
 
-    def lines(self) -> list[str]:
-        """What is told of it: the run, and the hints on annotations."""
-        if self.told is None:
-            return []
-        run = self.told.get("run")
-        head = {EXACT: f"{BROKEN} by this run:", BY_NUMBERS: f"{BROKEN} by a simulated run:"}.get(str(self.told.get("status")), "")
-        lines = [head, *run["lines"]] if run and head else []
-        return lines + [f"annotation: {hint}" for hint in self.told.get("hints", [])]
+
+def lines_of(told: Mapping[str, Any] | None) -> list[str]:
+    """What is told of it in lines: the run, and the hints on annotations."""
+    if told is None:
+        return []
+    run = told.get("run")
+    head = {EXACT: f"{BROKEN} by this run:", BY_NUMBERS: f"{BROKEN} by a simulated run:"}.get(str(told.get("status")), "")
+    lines = [head, *run["lines"]] if run and head else []
+    return lines + [f"annotation: {hint}" for hint in told.get("hints", [])]

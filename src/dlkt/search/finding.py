@@ -4,14 +4,15 @@ What is found is run once more as a whole by `dlk prove`. It is judged elsewhere
 """
 
 import time
+from collections.abc import Mapping
 from enum import StrEnum
 from pathlib import Path
-from typing import NamedTuple
+from typing import Any, NamedTuple
 
 from dlkt.formulas import model, sequent, text
 from dlkt.program import Refused, one_line, position, program_of, read_bytes, refusal_in
 from dlkt.reader import Note, Wrong
-from dlkt.search.breaking import BROKEN, Breaking
+from dlkt.search.breaking import BROKEN, Breaking, lines_of
 from dlkt.search.context import IsFalse, OutOfTime, OutOfWork, Search, Step
 from dlkt.search.kernel import Failed, Goal, Kernel
 from dlkt.search.lemmas import Lemma
@@ -46,18 +47,23 @@ class Options(NamedTuple):
 
 class Found(NamedTuple):
     """What a search found: a strategy, or none; the lemmas whose proofs are to be linked; how many goals it leaves open; why there is none, or
-    what is left; the lines of a run that breaks the model, or an annotation; why each method didn't do; and how long it took, with how many
-    questions to the solver and calls of the program."""
+    what is left; what the search for a run tells that breaks the model, or an annotation; why each method didn't do; and how long it took, with how
+    many questions to the solver and calls of the program."""
 
     strategy: str | None
     lemmas: list[Lemma]
     left_open: int
     reasons: list[str]
-    values: list[str]
+    told: Mapping[str, Any] | None
     story: list[Step]
     seconds: float
     questions: int
     calls: int
+
+    @property
+    def values(self) -> list[str]:
+        """The lines of a run that breaks the model, or an annotation."""
+        return lines_of(self.told)
 
     @property
     def is_told_with_values(self) -> bool:
@@ -179,8 +185,8 @@ class Finder:
         if strategy is not None:
             strategy = self.taken(strategy)
         spent = time.time() - self.begin
-        values = [] if strategy is not None and not search.left_open else self.breaking.lines()
-        return Found(strategy, self.lemmas, search.left_open, search.failures, values, search.story, spent, self.solver.asked, self.kernel.calls)
+        told = None if strategy is not None and not search.left_open else self.breaking.told
+        return Found(strategy, self.lemmas, search.left_open, search.failures, told, search.story, spent, self.solver.asked, self.kernel.calls)
 
     def taken(self, strategy: str) -> str | None:
         """The strategy where the program takes it as a whole, else none. A sketch may leave goals, as every strategy."""
@@ -216,7 +222,7 @@ def expand_line(sequent_text: str, line: str, options: Options = Options()) -> s
         said = expand(finder.search, goal, line, options.folder)
     except IsFalse:
         said = None
-        finder.search.say("; ".join(line.strip() for line in finder.breaking.lines()))
+        finder.search.say("; ".join(line.strip() for line in lines_of(finder.breaking.told)))
     except (OutOfTime, OutOfWork):
         said = None
         finder.search.say(f"out of time ({options.seconds:g} s)")

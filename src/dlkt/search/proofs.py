@@ -17,15 +17,16 @@ MOST_REASONS = 8
 
 
 class NotFound(NamedTuple):
-    """Why there is no proof, a line each; and whether it is a run that breaks the model."""
+    """Why there is no proof, a line each; whether it is a run that breaks the model; and all that came of the search."""
 
     reasons: Sequence[str]
     is_refuted: bool
+    result: Found
 
 
 def reasons_of(result: Found) -> NotFound:
     """Why there is no strategy."""
-    return NotFound([*(result.values or result.reasons[-MOST_REASONS:])] or ["nothing is found"], result.is_refuted)
+    return NotFound([*(result.values or result.reasons[-MOST_REASONS:])] or ["nothing is found"], result.is_refuted, result)
 
 
 def by_search(model: str, program: str | None) -> Source | NotFound:

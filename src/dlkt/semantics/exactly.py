@@ -306,4 +306,4 @@ def flow_done(system: Tree, numbers: Numbers, duration: Fraction) -> Step:
             raise NoRun
         numbers |= {name: at(polynomial, duration) for name, polynomial in along.items()}
     values = {name: Amount.of(numbers[name]) for name in rights}
-    return Step(Kind.FLOW, text(system), values, Amount.of(duration), program=system)
+    return Step(Kind.FLOW, text(system), values, Amount.of(duration))

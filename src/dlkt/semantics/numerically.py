@@ -166,7 +166,7 @@ def step_of(did: Did, number: int) -> Step:
         return Step(Kind.ROUND, f"round {number}", round=number)
     kind = {"test": Kind.TEST, "assign": Kind.SET, "any": Kind.CHOSEN, "system": Kind.FLOW}[word]
     values = {name: Amount(known) for name, known in did.values.items()}
-    return Step(kind, text(did.program), values, None if did.duration is None else Amount(did.duration), program=did.program)
+    return Step(kind, text(did.program), values, None if did.duration is None else Amount(did.duration))
 
 
 def sides_of(formula: Tree, state: Floats) -> list[tuple[float, str, float]]:

@@ -6,16 +6,19 @@ It needs matplotlib (Debian's python3-matplotlib). Along systems the lines are c
 from __future__ import annotations
 
 import importlib.util
+import io
+import logging
 import random
+import warnings
 from pathlib import Path
-from typing import NamedTuple, Sequence
+from typing import BinaryIO, NamedTuple, Sequence
 
 from dlkt import reader
 from dlkt.program import Refused, are_same_file
 from dlkt.semantics.floats import Floats, value
 from dlkt.semantics.runs import Kind, Run, Step
 from dlkt.semantics.simulation import Choices, Flow, Simulation
-from dlkt.semantics.syntax import TREES, make, reads
+from dlkt.semantics.syntax import TREES, Unsupported, make, reads
 from dlkt.trees import Tree, text
 
 ENDINGS = {".svg": b"<?xml", ".png": b"\x89PNG", ".pdf": b"%PDF"}
@@ -40,9 +43,14 @@ class Lines(NamedTuple):
     spans: list[Span]
 
 
+def is_there() -> bool:
+    """Whether matplotlib is there."""
+    return importlib.util.find_spec("matplotlib") is not None
+
+
 def refuse_bad_plot(target: str, model: str) -> None:
     """Refuses a plot that can't be drawn, is an input, or has something else in it than a plot."""
-    if importlib.util.find_spec("matplotlib") is None:
+    if not is_there():
         raise Refused(NEEDED)
     path = Path(target)
     if path.suffix not in ENDINGS:
@@ -78,9 +86,10 @@ def lines_of(run: Run) -> Lines:
 
     point()
     for step in run.steps:
-        if step.kind == Kind.FLOW and step.program is not None and step.duration is not None:
-            begin, domain = time, step.program.kids[-1]
-            for moment, state in along(step, step.program, state):
+        if step.kind == Kind.FLOW and step.duration is not None:
+            system = reader.formula(f"[{step.text}]true", TREES).kids[0]
+            begin, domain = time, system.kids[-1]
+            for moment, state in along(step, system, state):
                 time = begin + moment
                 point()
             time = begin + step.duration.near
@@ -117,7 +126,23 @@ def short(formula: str) -> str:
     return formula if len(formula) <= LONGEST else formula[: LONGEST - 2] + ".."
 
 
-def draw(run: Run, target: str) -> None:
+def drawn(run: Run) -> str:
+    """The picture of a run as a part of a page; nothing where no time passes, or it can't be drawn."""
+    if not is_there() or not any(step.duration and step.duration.near for step in run.steps):
+        return ""
+    logging.getLogger("matplotlib").setLevel(logging.ERROR)  # that it looks for fonts is no complaint
+    out = io.BytesIO()
+    with warnings.catch_warnings():
+        warnings.simplefilter("ignore")
+        try:
+            draw(run, out)
+        except (ArithmeticError, Unsupported):
+            return ""
+    said = out.getvalue().decode()
+    return said[said.index("<svg") :]
+
+
+def draw(run: Run, target: str | BinaryIO) -> None:
     """Draws a run to a file."""
     import matplotlib
     matplotlib.use("Agg")
@@ -137,5 +162,6 @@ def draw(run: Run, target: str) -> None:
     axes.set_xlabel("time")
     axes.legend(loc="best", fontsize=8)
     figure.tight_layout()
-    figure.savefig(target, metadata={"Date": None} if target.endswith(".svg") else None)
+    form = Path(target).suffix[1:] if isinstance(target, str) else "svg"
+    figure.savefig(target, format=form, metadata=dict.fromkeys(("Date", "Creator", "Format", "Type")) if form == "svg" else None)
     pyplot.close(figure)

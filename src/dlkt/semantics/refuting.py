@@ -274,7 +274,7 @@ def step_by_solver(step: Taken, solution: solver.Solution) -> Step:
     values = {name: valued(step.state.get(name), solution) for name in names}
     duration = amount_of(solution.value(step.constant)) if step.kind == Kind.FLOW and step.constant is not None else None
     shown = f"\\forall {tree.detail}" if tree.word == "forall" else text(tree)
-    return Step(step.kind, shown, values, duration, program=tree if duration else None)
+    return Step(step.kind, shown, values, duration)
 
 
 def sides_by_solver(formula: Tree, state: State, solution: solver.Solution) -> list[tuple[Amount, str, Amount]]:

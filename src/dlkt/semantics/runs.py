@@ -6,8 +6,6 @@ from enum import Enum
 from fractions import Fraction
 from typing import Any, Mapping, NamedTuple, Sequence
 
-from dlkt.trees import Tree
-
 LONGEST_FRACTION = 13  # letters
 WIDTH = 34  # of a statement's text
 
@@ -58,7 +56,6 @@ class Step(NamedTuple):
     values: Mapping[str, Amount] = {}
     duration: Amount | None = None
     round: int = 0
-    program: Tree | None = None
 
 
 class Accuracy(NamedTuple):
@@ -97,19 +94,28 @@ def values_text(values: Mapping[str, Amount]) -> str:
     return ", ".join(f"{name} = {value.text()}" for name, value in values.items())
 
 
+class Row(NamedTuple):
+    """A row of a run's table: the round that begins, the statement, how long it ran, and what it did."""
+
+    heading: str
+    statement: str = ""
+    time: str = ""
+    said: str = ""
+
+
+def time_text(step: Step) -> str:
+    """How long a step ran."""
+    return "" if step.duration is None else f"for {step.duration.text() if step.duration.near else 0}"
+
+
 def step_text(step: Step) -> str:
     """What a step did."""
-    if step.kind in (Kind.TEST, Kind.ASSUMED):
-        return "holds"
-    said = values_text(step.values)
-    if step.duration is None:
-        return said
-    return f"for {step.duration.text()}:  {said}" if step.duration.near else f"for 0:  {said}"
+    return "holds" if step.kind in (Kind.TEST, Kind.ASSUMED) else values_text(step.values)
 
 
-def run_lines(run: Run) -> list[str]:
-    """The lines of a run's table: the first values, each step under its round, and what fails."""
-    found = [f"  {'at first':<9}{values_text(run.first)}"] if run.first else []
+def step_rows(run: Run) -> list[Row]:
+    """The rows of a run's steps, each under its round."""
+    found: list[Row] = []
     heading = ""
     for place, step in enumerate(run.steps):
         if step.kind == Kind.ASSUMED and all(earlier.kind == Kind.ASSUMED for earlier in run.steps[:place]):
@@ -117,11 +123,18 @@ def run_lines(run: Run) -> list[str]:
         if step.kind == Kind.ROUND:
             heading = f"round {step.round}"
             continue
-        text = step.text if len(step.text) <= WIDTH else step.text[: WIDTH - 3] + ".."
-        found.append(f"  {heading:<9}{text:<{WIDTH}} {step_text(step)}".rstrip())
+        found.append(Row(heading, step.text, time_text(step), step_text(step)))
         heading = ""
-    if heading:
-        found.append(f"  {heading}")
+    return [*found, Row(heading)] if heading else found
+
+
+def run_lines(run: Run) -> list[str]:
+    """The lines of a run's table: the first values, each step under its round, and what fails."""
+    found = [f"  {'at first':<9}{values_text(run.first)}"] if run.first else []
+    for row in step_rows(run):
+        text = row.statement if len(row.statement) <= WIDTH else row.statement[: WIDTH - 3] + ".."
+        time = f"{row.time}:  " if row.time else ""
+        found.append(f"  {row.heading:<9}{text:<{WIDTH}} {time}{row.said}".rstrip())
     sides = f"   ({'; '.join(run.sides)})" if run.sides else ""
     return [*found, f"  {'fails':<9}{run.fails}{sides}"]
 
@@ -182,3 +195,21 @@ def answer_told(answer: Answer) -> dict[str, Any]:
         "status": answer.status.value, "run": None if answer.run is None else run_told(answer.run), "tried": answer.tried,
         "seconds": round(answer.seconds, 3), "hints": list(answer.hints),
     }
+
+
+def amount_of(told: Mapping[str, Any]) -> Amount:
+    """The amount that was told."""
+    return Amount(told["near"], None if told["exact"] is None else Fraction(told["exact"]))
+
+
+def run_of(told: Mapping[str, Any]) -> Run:
+    """The run that was told."""
+    def values(those: Mapping[str, Any]) -> dict[str, Amount]:
+        return {name: amount_of(value) for name, value in those.items()}
+
+    steps = [
+        Step(Kind(one["kind"]), one["text"], values(one["values"]), one["duration"] and amount_of(one["duration"]), one["round"] or 0)
+        for one in told["steps"]
+    ]
+    accuracy = None if told["accuracy"] is None else Accuracy(**told["accuracy"])
+    return Run(told["exact"], values(told["first"]), steps, told["fails"], told["sides"], told["rounds"], accuracy)
