@@ -51,29 +51,23 @@ fn a_tree_made_twice(rt: HostRuntime) -> Result<(), Fail> {
     Ok(())
 }
 
-/// Whether a node made like another over its own kid is the same tree, whether one over another kid is the tree that `make` gives, and
-/// whether it is the first.
-fn made_like<S: Store>(alloc: Global, store: &mut S) -> Result<[bool; 3], StoreFault> {
+/// The ids of `!true`, of what is made like it over `true`, and of what is made like it over `false`; and the size and the depth of the last.
+fn made_like<S: Store>(alloc: Global, store: &mut S) -> Result<([Id; 3], u32, u32), StoreFault> {
     let t = store.make(alloc, Op::True, &[])?;
-    let f = store.make(alloc, Op::False, &[])?;
     let first = store.make(alloc, Op::Not, &[t])?;
     let again = store.make_like(alloc, first, &[t])?;
+    let f = store.make(alloc, Op::False, &[])?;
     let other = store.make_like(alloc, first, &[f])?;
-    let wanted = store.make(alloc, Op::Not, &[f])?;
-    Ok([
-        store.same(first, again),
-        store.same(other, wanted),
-        store.same(first, other),
-    ])
+    Ok(([first, again, other], store.size(other), store.depth(other)))
 }
 
 #[test]
 fn a_node_made_like_another(rt: HostRuntime) -> Result<(), Fail> {
     let alloc = rt.alloc();
     let shared = made_like(alloc, &mut SharedStore::new(alloc))?;
-    same(&rt, shared, [true, true, false], &"shared");
+    same(&rt, shared, ([Id(1), Id(1), Id(3)], 2, 2), &"shared");
     let plain = made_like(alloc, &mut PlainStore::new(alloc))?;
-    same(&rt, plain, [true, true, false], &"plain");
+    same(&rt, plain, ([Id(1), Id(2), Id(4)], 2, 2), &"plain");
     Ok(())
 }
 
