@@ -39,8 +39,8 @@ if TYPE_CHECKING:
     from dlkt.search.finding import Found as Search
     from dlkt.search.proofs import NotFound
 
-# Of how many runs of a word the goals are shown.
-GOALS_SHOWN = 4
+GOALS_SHOWN = 4  # of so many runs of a word the goals are shown
+Section = tuple[str, str, str]  # of a page: its name for links, its heading, and what it has
 
 
 class Visit(NamedTuple):
@@ -173,8 +173,7 @@ class Found:
 
 def title_of(model: str) -> str:
     """What a page is called: as the model's folder, where the file itself is only called a model."""
-    path = Path(model)
-    return path.resolve().parent.name if path.stem == "model" else path.stem
+    return Path(model).resolve().parent.name if Path(model).stem == "model" else Path(model).stem
 
 
 # The parts of the page
@@ -195,33 +194,16 @@ def table(heads: Sequence[str], rows: Sequence[Sequence[str]]) -> str:
     return f"<table><tr>{first}</tr>" + "".join(f"<tr>{''.join(f'<td>{cell}</td>' for cell in row)}</tr>" for row in rows) + "</table>"
 
 
-class Section(NamedTuple):
-    """A section of a page: its name for links, its heading, and what it has."""
-
-    name: str
-    heading: str
-    text: str
-
-
 def model(data: bytes) -> Section:
     """The model, laid out."""
-    return Section("model", "Model", f'<pre class="source">{source(printed_model(data.decode("latin-1"), WIDTH).encode("latin-1"))}</pre>')
+    return ("model", "Model", f'<pre class="source">{source(printed_model(data.decode("latin-1"), WIDTH).encode("latin-1"))}</pre>')
 
 
-def rest_of(name: str, said: str) -> str:
-    """A line of what the verdict rests on."""
-    return f"<dt>{name}</dt><dd>{said}</dd>"
-
-
-def resting(rows: Sequence[str]) -> Section:
-    """The section that these lines are."""
-    return Section("rests", "What it rests on", "\n".join(["<dl>", *rows, "</dl>"]))
-
-
-def rest_of_program(path: str) -> str:
-    """The line of the program."""
+def resting(rows: Sequence[tuple[str, str]], path: str) -> Section:
+    """What a verdict rests on: these, and the program."""
     data = Path(path).read_bytes()
-    return rest_of("Program", f'dlk, {len(data):,} bytes, sha256 <span class="hash">{hashlib.sha256(data).hexdigest()}</span>')
+    program = f'dlk, {len(data):,} bytes, sha256 <span class="hash">{hashlib.sha256(data).hexdigest()}</span>'
+    return ("rests", "What it rests on", "<dl>" + "\n".join(f"<dt>{name}</dt><dd>{said}</dd>" for name, said in [*rows, ("Program", program)]) + "</dl>")
 
 
 def where(place: Position) -> str:
@@ -231,9 +213,7 @@ def where(place: Position) -> str:
 
 def goals_left(found: Found, goals: Sequence[str], what: str) -> str:
     """Goals with their numbers."""
-    return "".join(
-        f'<div class="left"><b>{what} {number}</b>{found.shown(found.sequent(goal))}</div>' for number, goal in enumerate(goals, 1)
-    )
+    return "".join(f'<div class="left"><b>{what} {number}</b>{found.shown(found.sequent(goal))}</div>' for number, goal in enumerate(goals, 1))
 
 
 def said_of_proof(found: Found, proof: Proof) -> str:
@@ -248,11 +228,9 @@ def said_of_proof(found: Found, proof: Proof) -> str:
 
 def said_of_lemmas(proof: Proof) -> str:
     """Which lines of a linked proof are those of lemmas."""
-    rows = "".join(
-        f"<div>lines {lemma.first:,} to {lemma.last:,}: {counted(lemma.goals, 'goal')} proved with {code(lemma.conclusion)}</div>"
-        for lemma in proof.lemmas
-    )
-    return f"<b>linked</b>. This proof has lemmas that were proved by themselves and put in: {rows}"
+    said = "<b>linked</b>. This proof has lemmas that were proved by themselves and put in: "
+    lemmas = [(f"lines {it.first:,} to {it.last:,}", counted(it.goals, "goal"), code(it.conclusion)) for it in proof.lemmas]
+    return said + "".join(f"<div>{lines}: {goals} proved with {conclusion}</div>" for lines, goals, conclusion in lemmas)
 
 
 def said_of_fault(found: Found, fault: Fault) -> str:
@@ -275,19 +253,16 @@ def said_of_guard(guard: Guard) -> str:
 
 def rests(found: Found) -> Section:
     """What the verdict rests on, or what is known of the parts of one that isn't."""
-    verdict, rows = found.verdict, list[str]()
+    verdict, rows = found.verdict, list[tuple[str, str]]()
     if isinstance(verdict.found, Fault):
-        rows.append(rest_of("Proof", said_of_fault(found, verdict.found)))
+        rows.append(("Proof", said_of_fault(found, verdict.found)))
     else:
-        rows.append(rest_of("Proof", said_of_proof(found, verdict.found)))
-        if verdict.found.lemmas:
-            rows.append(rest_of("Lemmas", said_of_lemmas(verdict.found)))
+        rows.append(("Proof", said_of_proof(found, verdict.found)))
+        rows += [("Lemmas", said_of_lemmas(verdict.found))] if verdict.found.lemmas else []
     if verdict.guard:
-        rows.append(rest_of("Guard", said_of_guard(verdict.guard)))
-        rows.append(rest_of("Leaves", leaves_in_short(verdict)))
-    rows.append(rest_of_program(found.program))
-    rows += [rest_of("Hint", f"{html.escape(where(hint.place))}: {html.escape(hint.text)}") for hint in verdict.hints]
-    return resting(rows)
+        rows += [("Guard", said_of_guard(verdict.guard)), ("Leaves", leaves_in_short(verdict))]
+    rows += [("Hint", f"{html.escape(where(hint.place))}: {html.escape(hint.text)}") for hint in verdict.hints]
+    return resting(rows, found.program)
 
 
 def by_solvers(verdict: Verdict) -> str:
@@ -387,18 +362,11 @@ def files(all_of: Mapping[str, bytes], note: str, known: Sequence[str] = ()) -> 
         for name, data in all_of.items() if data
     ]
     texts = {name: data.decode("latin-1") for name, data in all_of.items() if data and name not in known}
-    return Section("files", "Files", (
+    return ("files", "Files", (
         table(("File", "Bytes", "sha256", ""), rows) +
         f'<p class="note">This page was made by a script of which nothing is proved, and checks nothing itself. {note}</p>'
         f'<script type="application/json" id="texts">{script_data(texts)}</script>'
     ))
-
-
-def files_of(found: Found) -> Section:
-    """The files of a proof."""
-    all_of = {"model": found.verdict.model.data, "strategy": found.strategy, "term": found.term}
-    note = "Whoever doubts it saves the model and the term, and asks <code>dlk guard model term</code>: the answer depends on these two files alone."
-    return files(all_of, note if found.verdict.guard else "", ["term"] if found.term == found.table.text().encode("latin-1") else [])
 
 
 def verdict_line(verdict: Verdict) -> tuple[str, str, str]:
@@ -415,19 +383,22 @@ def shell(title: str, said: tuple[str, str, str], sections: Sequence[Section], *
     mood, word, why = said
     parts = {
         "name": html.escape(title), "mood": mood, "word": word, "why": html.escape(why), "style": part("tree.css", "page.css"), "script": part(*scripts),
-        "links": "".join(f'<a href="#{one.name}">{one.heading}</a>' for one in sections),
-        "sections": "\n".join(f'<section id="{one.name}"><h2>{one.heading}</h2>\n{one.text}\n</section>' for one in sections),
+        "links": "".join(f'<a href="#{name}">{heading}</a>' for name, heading, _ in sections),
+        "sections": "\n".join(f'<section id="{name}"><h2>{heading}</h2>\n{text}\n</section>' for name, heading, text in sections),
     }
     return filled(part("page.html"), **parts)
 
 
 def page(found: Found) -> str:
     """The text of the page. The tree comes last, since it has the formulas of all other parts."""
-    first = [model(found.verdict.model.data), rests(found), Section("strategy", "Strategy", strategy(found)), Section("leaves", "Leaves", leaves(found))]
+    first = [model(found.verdict.model.data), rests(found), ("strategy", "Strategy", strategy(found)), ("leaves", "Leaves", leaves(found))]
     given: dict[str, object] = {"visits": visits(found)}
     given |= found.table.given(12, found.told)
-    proof = Section("proof", "Proof", f'<p class="note">{summary(found.drawing)}.</p>\n{tree(given)}')
-    return shell(found.title, verdict_line(found.verdict), [*first, proof, files_of(found)], "typeset.js", "page.js", "goals.js")
+    proof = ("proof", "Proof", f'<p class="note">{summary(found.drawing)}.</p>\n{tree(given)}')
+    all_of = {"model": found.verdict.model.data, "strategy": found.strategy, "term": found.term}
+    doubt = "Whoever doubts it saves the model and the term, and asks <code>dlk guard model term</code>: the answer depends on these two files alone."
+    last = files(all_of, doubt if found.verdict.guard else "", ["term"] if found.term == found.table.text().encode("latin-1") else [])
+    return shell(found.title, verdict_line(found.verdict), [*first, proof, last], "typeset.js", "page.js", "goals.js")
 
 
 # Where no proof is found
@@ -441,7 +412,7 @@ def run_of(run: runs.Run) -> Section:
     picture = plot.drawn(run)
     said = "Time goes across. Dashed are the sides of what fails; shaded are the systems, with their domains above."
     figure = f"<figure>{picture}<figcaption>{said}</figcaption></figure>" if picture else ""
-    return Section("run", "A run that breaks it", f'<p class="note">{note}</p>{table(("", "Statement", "It ran", "Values then"), cells)}{figure}')
+    return ("run", "A run that breaks it", f'<p class="note">{note}</p>{table(("", "Statement", "It ran", "Values then"), cells)}{figure}')
 
 
 def said_of_run(run: runs.Run) -> str:
@@ -451,19 +422,19 @@ def said_of_run(run: runs.Run) -> str:
     return "<b>exact</b>. Each step was computed again with its numbers, by fractions, or by z3's exact arithmetic where a number is a root of a polynomial."
 
 
-def tried(result: "Search", program: str) -> Section:
+def tried(result: "Search") -> Section:
     """What a search tried that found nothing."""
     told = result.told or {"status": "nothing found", "tried": "there was no answer in time"}
     rows = [[step.method, html.escape(step.why), code(step.goal)] for step in result.story]
     rows.append(["a run that breaks the model", html.escape(f"{told['status']}: {told['tried']}"), ""])
     ends = "".join(f"<li>{html.escape(reason)}</li>" for reason in result.reasons)
-    return Section("tried", "What was tried", f"<ul>{ends}</ul>{table(('Method', 'What came of it', 'Goal'), rows)}<dl>{rest_of_program(program)}</dl>")
+    return ("tried", "What was tried", f"<ul>{ends}</ul>{table(('Method', 'What came of it', 'Goal'), rows)}")
 
 
 def hints(those: Sequence[str]) -> Section:
     """What is said of the model's annotations."""
     note = "Each is looked at by itself, from any state in which it holds. The program may never come there: it is a hint and no more."
-    return Section("hints", "Annotations", f'<p class="note">{note}</p><ul>{"".join(f"<li>{html.escape(one)}</li>" for one in those)}</ul>')
+    return ("hints", "Annotations", f'<p class="note">{note}</p><ul>{"".join(f"<li>{html.escape(one)}</li>" for one in those)}</ul>')
 
 
 def page_without_proof(model_file: Source, found: "NotFound", program: str) -> str:
@@ -473,10 +444,10 @@ def page_without_proof(model_file: Source, found: "NotFound", program: str) -> s
         run = runs.run_of(told["run"])
         by = "" if run.is_exact else f"by numbers: {runs.accuracy_text(run.accuracy)}. It isn't exact"
         said, ask = ("bad", "refuted", by or "a run breaks the model"), "follows the run by hand, or saves the model and asks <code>dlkt refute model</code>"
-        sections += [run_of(run), resting([rest_of("Run", said_of_run(run)), rest_of_program(program)])]
+        sections += [run_of(run), resting([("Run", said_of_run(run))], program)]
     else:
         said, ask = ("bad", "not verified", "no proof is found"), "saves the model and asks <code>dlkt verify model</code>"
-        sections.append(tried(found.result, program))
+        sections += [tried(found.result), resting([], program)]
     sections += [hints(told["hints"])] if told.get("hints") else []
     sections.append(files({"model": model_file.data}, f"Whoever doubts it {ask}."))
     return shell(title_of(model_file.name), said, sections, "escaped.js", "typeset.js", "page.js")
