@@ -34,9 +34,8 @@ def same_trees(steps, trees):
     lines = "".join(f"{terms.line_in_full(step)}\n" for step in steps)
     made = []
     for line in lines.split("\n")[:-1]:
-        found = terms.STEP_LINE.fullmatch(line)
         readers = terms.Readers(lambda rest: reader.sequent(rest, trees), lambda rest: reader.pairs(rest, trees), lambda rest: reader.formula(rest, trees))
-        made.append(terms.step_of(int(found[1]), len(made) + 1, found[2], found[3], readers))
+        made.append(terms.step_of(len(made) + 1, line, readers))
     return made
 
 

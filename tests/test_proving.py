@@ -20,12 +20,12 @@ class Positions(unittest.TestCase):
         self.assertEqual((place.line, place.column, place.source[place.column - 1 :]), (1, 9, "foo"))
 
     def test_the_end_and_behind_it(self):
-        self.assertEqual(proving.position(b"(nil", 4)[:2], (1, 5))
-        self.assertEqual(proving.position(b"a\n", 99)[:2], (2, 1))
-        self.assertEqual(proving.position(b"", 0)[:2], (1, 1))
+        self.assertEqual(proving.position(b"(nil", 4)[2:4], (1, 5))
+        self.assertEqual(proving.position(b"a\n", 99)[2:4], (2, 1))
+        self.assertEqual(proving.position(b"", 0)[2:4], (1, 1))
 
     def test_line_ends_of_windows(self):
-        self.assertEqual(proving.position(b"a;\r\nb\r\n", 4)[:3], (2, 1, "b"))
+        self.assertEqual(proving.position(b"a;\r\nb\r\n", 4)[2:5], (2, 1, "b"))
 
 
 class Sequents(unittest.TestCase):
