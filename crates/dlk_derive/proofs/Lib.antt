@@ -8,4 +8,5 @@ pub mod Kids
 pub mod Collecting
 pub mod Planned
 pub mod Places
+pub mod Looked
 pub mod Fitting

@@ -1,6 +1,7 @@
 pub mod Derivative
 pub mod Decided
 pub mod Plans
+pub mod Looks
 pub mod Derives
 pub mod Ways
 pub mod Rewriting

@@ -1,6 +1,6 @@
 //! Which trees of a store have a derivative.
-ghost use Rattle.std.specs.Prelude.{◌≡◌, ◌↔◌, All, IsTrue};
-ghost use Rattle.dlk_tree.specs.Trees.{Tree};
+ghost use Rattle.std.specs.Prelude.{◌≡◌, ◌+◌, ◌*◌, ◌≤◌, ◌↔◌, All, IsTrue};
+ghost use Rattle.dlk_tree.specs.Trees.{Tree, size, size_all};
 ghost use Rattle.dlk_store.specs.Stores.{IsId, tree, kid_trees};
 ghost use Rattle.dlk_calculus.specs.Kids.{last};
 ghost use Rattle.dlk_derive.specs.Derivative.{IsDerivative};
@@ -14,7 +14,8 @@ use std::sync::ledger::Ledger;
 /// Whether the tree is a number other than 0, as a literal.
 fn is_exponent<S: Store, L: Ledger>(store: &S, id: Id, steps: &mut Steps<L>) -> bool
     requires { IsId (S.trees store.now) id }
-    ensures { result ≡ is_exponent (tree (S.trees store.now) id) }
+    ensures value { result ≡ is_exponent (tree (S.trees store.now) id) }
+    ensures cost { steps.new ≤ steps.old + 1 }
 {
     match store.look(id, steps).op {
         Op::Number(n) => n.digits != 0,
@@ -25,7 +26,8 @@ fn is_exponent<S: Store, L: Ledger>(store: &S, id: Id, steps: &mut Steps<L>) -> 
 /// Whether the last of these trees is.
 fn ends_in_exponent<S: Store, L: Ledger>(store: &S, ids: &[Id], steps: &mut Steps<L>) -> bool
     requires { All (IsId (S.trees store.now)) ids.now }
-    ensures { result ≡ is_exponent (last (kid_trees (S.trees store.now) ids.now)) }
+    ensures value { result ≡ is_exponent (last (kid_trees (S.trees store.now) ids.now)) }
+    ensures cost { steps.new ≤ steps.old + 1 }
 {
     let Some(id) = ids.last() else {
         return false;
@@ -36,7 +38,8 @@ fn ends_in_exponent<S: Store, L: Ledger>(store: &S, ids: &[Id], steps: &mut Step
 /// Whether a term with this operator over these kids has a derivative, where each kid has one.
 fn joins_terms<S: Store, L: Ledger>(store: &S, op: &Op, kids: &[Id], steps: &mut Steps<L>) -> bool
     requires { All (IsId (S.trees store.now)) kids.now }
-    ensures { result ≡ joins_terms op.now (kid_trees (S.trees store.now) kids.now) }
+    ensures value { result ≡ joins_terms op.now (kid_trees (S.trees store.now) kids.now) }
+    ensures cost { steps.new ≤ steps.old + 1 }
 {
     match op {
         Op::Variable(v) => !v.primed,
@@ -50,7 +53,8 @@ fn joins_terms<S: Store, L: Ledger>(store: &S, op: &Op, kids: &[Id], steps: &mut
 /// Whether the tree is a term that has a derivative.
 fn is_derivable<S: Store, L: Ledger>(store: &S, id: Id, steps: &mut Steps<L>) -> bool
     requires { IsId (S.trees store.now) id }
-    ensures { result ≡ is_derivable (tree (S.trees store.now) id) }
+    ensures value { result ≡ is_derivable (tree (S.trees store.now) id) }
+    ensures cost { steps.new ≤ steps.old + 2 * size (tree (S.trees store.now) id) }
 {
     let node = store.look(id, steps);
     if !joins_terms(store, node.op, node.kids, steps) {
@@ -67,7 +71,8 @@ fn is_derivable<S: Store, L: Ledger>(store: &S, id: Id, steps: &mut Steps<L>) ->
 /// Whether each of the trees is.
 fn are_derivable<S: Store, L: Ledger>(store: &S, ids: &[Id], steps: &mut Steps<L>) -> bool
     requires { All (IsId (S.trees store.now)) ids.now }
-    ensures { result ≡ are_derivable (kid_trees (S.trees store.now) ids.now) }
+    ensures value { result ≡ are_derivable (kid_trees (S.trees store.now) ids.now) }
+    ensures cost { steps.new ≤ steps.old + 2 * size_all (kid_trees (S.trees store.now) ids.now) }
 {
     for id in ids {
         if !is_derivable(store, *id, steps) {
@@ -87,7 +92,8 @@ fn joins_formulas(op: &Op) -> bool
 /// Whether the tree is a formula that has a derivative.
 fn is_derivable_formula<S: Store, L: Ledger>(store: &S, id: Id, steps: &mut Steps<L>) -> bool
     requires { IsId (S.trees store.now) id }
-    ensures { result ≡ is_derivable_formula (tree (S.trees store.now) id) }
+    ensures value { result ≡ is_derivable_formula (tree (S.trees store.now) id) }
+    ensures cost { steps.new ≤ steps.old + 2 * size (tree (S.trees store.now) id) }
 {
     let node = store.look(id, steps);
     if is_comparison(node.op) {
@@ -107,7 +113,8 @@ fn is_derivable_formula<S: Store, L: Ledger>(store: &S, id: Id, steps: &mut Step
 /// Whether each of the trees is.
 fn are_derivable_formulas<S: Store, L: Ledger>(store: &S, ids: &[Id], steps: &mut Steps<L>) -> bool
     requires { All (IsId (S.trees store.now)) ids.now }
-    ensures { result ≡ are_derivable_formulas (kid_trees (S.trees store.now) ids.now) }
+    ensures value { result ≡ are_derivable_formulas (kid_trees (S.trees store.now) ids.now) }
+    ensures cost { steps.new ≤ steps.old + 2 * size_all (kid_trees (S.trees store.now) ids.now) }
 {
     for id in ids {
         if !is_derivable_formula(store, *id, steps) {
@@ -120,7 +127,8 @@ fn are_derivable_formulas<S: Store, L: Ledger>(store: &S, ids: &[Id], steps: &mu
 /// Whether the tree is a `( )'` that stands for a derivative.
 pub(crate) fn has_derivative<S: Store, L: Ledger>(store: &S, id: Id, steps: &mut Steps<L>) -> bool
     requires { IsId (S.trees store.now) id }
-    ensures { IsTrue result ↔ ((d : Tree) × IsDerivative (tree (S.trees store.now) id) d) }
+    ensures value { IsTrue result ↔ ((d : Tree) × IsDerivative (tree (S.trees store.now) id) d) }
+    ensures cost { steps.new ≤ steps.old + 2 * size (tree (S.trees store.now) id) }
 {
     let node = store.look(id, steps);
     match node.op {

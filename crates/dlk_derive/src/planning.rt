@@ -1,6 +1,6 @@
 //! The plan of a `( )'`: the uses of axioms that make its derivative of it.
-ghost use Rattle.std.specs.Prelude.{◌≡◌, ◌++◌, List, map, All, Err, MatchOption, IfOk, IfErr, OnOk};
-ghost use Rattle.dlk_tree.specs.Trees.{Tree};
+ghost use Rattle.std.specs.Prelude.{◌≡◌, ◌+◌, ◌≤◌, ◌++◌, List, length, map, All, Err, MatchOption, IfOk, IfErr, OnOk};
+ghost use Rattle.dlk_tree.specs.Trees.{Tree, size};
 ghost use Rattle.dlk_store.specs.Stores.{IsId, tree};
 ghost use Rattle.dlk_sequent.specs.Sequents.{sequent_at, IsKnown};
 ghost use Rattle.dlk_tacsyn.specs.Ties.{atom_at, AtomIsKnown};
@@ -9,6 +9,7 @@ ghost use Rattle.dlk_derive.specs.declared.fault.DeriveFault.TheVariants.{Memory
 ghost use Rattle.dlk_derive.specs.Decided.{IsDerivable};
 ghost use Rattle.dlk_derive.specs.Derives.{NoPlace, IsDifferential, Plans, NoPlan, use_of};
 ghost use Rattle.dlk_derive.specs.Plans.{Call, plan_at};
+ghost use Rattle.dlk_derive.specs.Looks.{plan_looks};
 ghost use Rattle.dlk_derive.specs.Ties.{IsDeriveFaultOf, IsTreeAt, IsDifferentialOf, atom_of};
 
 use crate::calls::{further, use_of, ways_for};
@@ -31,7 +32,8 @@ fn tree_at<S: Store, L: Ledger>(
     steps: &mut Steps<L>,
 ) -> Option<Id>
     requires { IsKnown (S.trees store.now) s.now }
-    ensures { MatchOption result (NoPlan (formula_at (sequent_at (S.trees store.now) s.now) place) path.now NoPlace) (IsTreeAt (S.trees store.now) s.now place path.now) }
+    ensures found { MatchOption result (NoPlan (formula_at (sequent_at (S.trees store.now) s.now) place) path.now NoPlace) (IsTreeAt (S.trees store.now) s.now place path.now) }
+    ensures cost { steps.new ≤ steps.old + length path.now }
 {
     let Some(formula) = formula_at(s, place) else {
         return None;
@@ -42,7 +44,8 @@ fn tree_at<S: Store, L: Ledger>(
 /// What the tree is the `( )'` of. None comes where it is none.
 fn under_differential<S: Store, L: Ledger>(store: &S, id: Id, steps: &mut Steps<L>) -> Option<Id>
     requires { IsId (S.trees store.now) id }
-    ensures { MatchOption result ((k : Tree) → ¬ IsDifferential (tree (S.trees store.now) id) k) (IsDifferentialOf (S.trees store.now) id) }
+    ensures kid { MatchOption result ((k : Tree) → ¬ IsDifferential (tree (S.trees store.now) id) k) (IsDifferentialOf (S.trees store.now) id) }
+    ensures cost { steps.new ≤ steps.old + 1 }
 {
     let node = store.look(id, steps);
     match node.op {
@@ -63,7 +66,8 @@ fn add_uses<S: Store, L: Ledger>(
 ) -> Result<(), AllocError>
     requires known { IsId (S.trees store.now) id }
     requires derivable { IsDerivable (tree (S.trees store.now) id) }
-    ensures { OnOk result (uses.new.items ≡ uses.old.items ++ map (atom_of place) (plan_at (tree (S.trees store.now) id) path.now)) }
+    ensures uses { OnOk result (uses.new.items ≡ uses.old.items ++ map (atom_of place) (plan_at (tree (S.trees store.now) id) path.now)) }
+    ensures cost { steps.new ≤ steps.old + size (tree (S.trees store.now) id) }
 {
     let node = store.look(id, steps);
     let own = use_of(alloc, node.op, place, path)?;
@@ -86,7 +90,8 @@ fn add_uses<S: Store, L: Ledger>(
 
 /// The plan of the `( )'` at a path in the formula at a place of a goal: an atom `useAt` for each use of an axiom, in turn. Run one after
 /// another they make the derivative of the `( )'`. The byte of each is 0; who runs them gives them that of the name they stand for. It only
-/// looks: nothing is made in the store, and the ids of the goal are those of the store.
+/// looks: nothing is made in the store, and the ids of the goal are those of the store. It takes at most a look for each kid of the path, and
+/// three at each node of the `( )'`.
 ///
 /// # Errors
 ///
@@ -107,6 +112,7 @@ pub fn plan<S: Store, L: Ledger>(
     ensures known { IfOk result (λ atoms. (trees : List Tree) → All (AtomIsKnown trees) atoms.items) }
     ensures fault { IfErr result (IsDeriveFaultOf (NoPlan (formula_at (sequent_at (S.trees store.now) s.now) place) path.now)) }
     ensures memory { result ≡ Err Memory → (calls : List Call) × Plans (formula_at (sequent_at (S.trees store.now) s.now) place) path.now calls }
+    ensures cost { steps.new ≤ steps.old + plan_looks (formula_at (sequent_at (S.trees store.now) s.now) place) path.now }
 {
     let Some(found) = tree_at(store, s, place, path, steps) else {
         return Err(DeriveFault::NoPlace);

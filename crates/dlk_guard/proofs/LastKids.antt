@@ -1,11 +1,12 @@
 -- The first, the last and the last but one of a node's kids.
-use Rattle.std.proofs.Common.{◌≡◌, ◌∙◌, refl, sym, ap, suc, ◌-◌, ◌<◌, ◌≤◌, List, [], ◌∷◌, length, get_or, Some, None, Bool, ◌&&◌, ◌||◌, arith}
+use Rattle.std.proofs.Common.{◌≡◌, ◌∙◌, refl, sym, ap, subst, suc, ◌-◌, ◌<◌, ◌≤◌, List, [], ◌∷◌, length, get_or, Some, None, Bool, ◌&&◌, ◌||◌, arith}
 use Rattle.std.specs.List.{slice_get}
-use Rattle.std.proofs.lemmas.Option.{none-some, slice_get-get_or}
+use Rattle.std.proofs.lemmas.Option.{none-some, same_Some, slice_get-get_or}
 use Rattle.dlk_tree.specs.declared.op.Op.{Op}
-use Rattle.dlk_tree.specs.Trees.{Tree, node, Forest}
+use Rattle.dlk_tree.specs.Trees.{Tree, node, Forest, size, size_all}
 use Rattle.dlk_store.specs.declared.Id.{Id}
 use Rattle.dlk_store.specs.Stores.{tree, kid_trees}
+use Rattle.dlk_store.proofs.Kids.{kid_size}
 use Rattle.dlk_calculus.specs.Kids.{first, last}
 use Rattle.dlk_guard.specs.Smooth.{parts, domain_parts, is_apart, are_term_and_zero, keeps_off_zero, is_constant, is_kept_off_zero, ends_in_divisor}
 use Rattle.dlk_guard.specs.Instances.{before_last}
@@ -20,6 +21,14 @@ none_last [] e = refl
 none_last (k ∷ ks) e =
     let n = length (k ∷ ks) - 1 in
     absurd (none-some (get_or (k ∷ ks) n k) (sym e ∙ slice_get-get_or (k ∷ ks) n k (omega arith)))
+
+-- the last is no larger than the kids together
+pub last_size : (trees : List Tree) (ks : List Id) (k : Id) → slice_get ks (length ks - 1) ≡ Some k → size (tree trees k) ≤ size_all (kid_trees trees ks)
+last_size trees [] k e = absurd (cc e)
+last_size trees (j ∷ ks) k e =
+    let n = length (j ∷ ks) - 1 in
+    let is : get_or (j ∷ ks) n k ≡ k = same_Some (get_or (j ∷ ks) n k) k (sym (slice_get-get_or (j ∷ ks) n k (omega arith)) ∙ e) in
+    subst (λ it. size (tree trees it) ≤ size_all (kid_trees trees (j ∷ ks))) is (kid_size trees (j ∷ ks) n k (omega arith))
 
 pub few_kids : (trees : List Tree) (ks : List Id) → length ks < 2 → before_last (kid_trees trees ks) ≡ None
 few_kids trees [] h = refl

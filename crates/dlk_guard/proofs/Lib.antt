@@ -4,6 +4,8 @@ mod Holes
 mod LastKids
 mod LastMark
 mod Joined
+mod Looked
+mod Below
 mod Wanted
 mod FirstLines
 mod Watching

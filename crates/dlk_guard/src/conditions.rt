@@ -1,12 +1,13 @@
 //! What is wanted of an instance of `DI` and of one of `DG`.
-ghost use Rattle.std.specs.Prelude.{◌≡◌, List, map, All, IfOk, IfSome, option_map};
+ghost use Rattle.std.specs.Prelude.{◌≡◌, ◌+◌, ◌*◌, ◌≤◌, ◌&&◌, List, length, map, All, IfOk, IfSome, option_map};
 ghost use Rattle.std.specs.List.{list_any};
 ghost use Rattle.std.specs.Str.{bytes_eq};
 ghost use Rattle.dlk_tree.specs.Table.{evolved};
-ghost use Rattle.dlk_tree.specs.Trees.{Tree};
+ghost use Rattle.dlk_tree.specs.Trees.{Tree, node};
 ghost use Rattle.dlk_store.specs.Stores.{IsId, tree, kid_trees};
-ghost use Rattle.dlk_guard.specs.Smooth.{domain_parts};
+ghost use Rattle.dlk_guard.specs.Smooth.{domain_parts, is_smooth};
 ghost use Rattle.dlk_guard.specs.Instances.{first_constant, loose_in_op, first_loose, is_free_in, first_primed, di_conditions, system_items, di_why, dg_conditions, dg_why, instance_why, before_last};
+ghost use Rattle.dlk_guard.specs.Looks.{smooth_looks, loose_looks, di_looks, dg_looks, instance_looks};
 
 use crate::parts::{domain_parts, is_frozen};
 use crate::raw::RawAxiom;
@@ -53,7 +54,8 @@ fn loose_in_op<S: Store, L: Ledger>(
     steps: &mut Steps<L>,
 ) -> Result<Option<Name>, AllocError>
     requires { All (IsId (S.trees store.now)) domain.now }
-    ensures { IfOk result (λ x. x ≡ loose_in_op items.now (map (tree (S.trees store.now)) domain.now) op.now) }
+    ensures value { IfOk result (λ x. x ≡ loose_in_op items.now (map (tree (S.trees store.now)) domain.now) op.now) }
+    ensures cost { steps.new ≤ steps.old + 3 * length domain.now }
 {
     let Op::Variable(v) = op else {
         return Ok(None);
@@ -74,11 +76,12 @@ fn first_loose<S: Store, L: Ledger>(
 ) -> Result<Option<Name>, AllocError>
     requires domain { All (IsId (S.trees store.now)) domain.now }
     requires id { IsId (S.trees store.now) id }
-    ensures { IfOk result (λ x. x ≡ first_loose items.now (map (tree (S.trees store.now)) domain.now) (tree (S.trees store.now) id)) }
+    ensures value { IfOk result (λ x. x ≡ first_loose items.now (map (tree (S.trees store.now)) domain.now) (tree (S.trees store.now) id)) }
+    ensures cost { steps.new ≤ steps.old + loose_looks (length domain.now) (tree (S.trees store.now) id) }
 {
     let node = store.look(id, steps);
-    if let Some(x) = loose_in_op(store, items, domain, node.op, steps)? {
-        return Ok(Some(x));
+    if let Some(own) = loose_in_op(store, items, domain, node.op, steps)? {
+        return Ok(Some(own));
     }
     for kid in node.kids {
         if let Some(x) = first_loose(store, items, domain, *kid, steps)? {
@@ -136,7 +139,8 @@ fn di_conditions<S: Store, L: Ledger>(
 ) -> Result<Option<Why>, AllocError>
     requires kids { All (IsId (S.trees store.now)) kids.now }
     requires p { IsId (S.trees store.now) p }
-    ensures { IfOk result (λ why. why ≡ di_conditions items.now (kid_trees (S.trees store.now) kids.now) (tree (S.trees store.now) p)) }
+    ensures why { IfOk result (λ why. why ≡ di_conditions items.now (kid_trees (S.trees store.now) kids.now) (tree (S.trees store.now) p)) }
+    ensures cost { steps.new ≤ steps.old + di_looks (kid_trees (S.trees store.now) kids.now) (tree (S.trees store.now) p) }
 {
     if let Some(s) = first_constant(items)? {
         return Ok(Some(Why::OdeConstant(s)));
@@ -172,7 +176,8 @@ fn di_why<S: Store, L: Ledger>(
     steps: &mut Steps<L>,
 ) -> Result<Option<Why>, AllocError>
     requires { IsId (S.trees store.now) id }
-    ensures { IfOk result (λ why. why ≡ di_why (tree (S.trees store.now) id)) }
+    ensures why { IfOk result (λ why. why ≡ di_why (tree (S.trees store.now) id)) }
+    ensures cost { steps.new ≤ steps.old + instance_looks (tree (S.trees store.now) id) }
 {
     let Some(system) = subtree(store, id, &[1, 0, 0], steps) else {
         return Ok(Some(Why::RawFact));
@@ -198,6 +203,23 @@ fn before_last(ids: &[Id]) -> Option<Id>
     Some(ids[ids.len() - 2])
 }
 
+/// Whether both terms are smooth over a domain with these parts.
+fn are_both_smooth<S: Store, L: Ledger>(
+    store: &S,
+    domain: &[Id],
+    a: Id,
+    b: Id,
+    steps: &mut Steps<L>,
+) -> bool
+    requires domain { All (IsId (S.trees store.now)) domain.now }
+    requires a { IsId (S.trees store.now) a }
+    requires b { IsId (S.trees store.now) b }
+    ensures value { let parts = map (tree (S.trees store.now)) domain.now in result ≡ (is_smooth parts (tree (S.trees store.now) a) && is_smooth parts (tree (S.trees store.now) b)) }
+    ensures cost { steps.new ≤ steps.old + smooth_looks (length domain.now) (tree (S.trees store.now) a) + smooth_looks (length domain.now) (tree (S.trees store.now) b) }
+{
+    is_smooth(store, domain, a, steps) && is_smooth(store, domain, b, steps)
+}
+
 /// Why `a` or `b` of the last right side isn't smooth, by the kids of a system, which are the right sides and the domain.
 fn dg_conditions<S: Store, L: Ledger>(
     alloc: Global,
@@ -206,7 +228,8 @@ fn dg_conditions<S: Store, L: Ledger>(
     steps: &mut Steps<L>,
 ) -> Result<Option<Why>, AllocError>
     requires { All (IsId (S.trees store.now)) kids.now }
-    ensures { IfOk result (λ why. why ≡ dg_conditions (domain_parts (kid_trees (S.trees store.now) kids.now)) (before_last (kid_trees (S.trees store.now) kids.now))) }
+    ensures why { IfOk result (λ why. why ≡ dg_conditions (domain_parts (kid_trees (S.trees store.now) kids.now)) (before_last (kid_trees (S.trees store.now) kids.now))) }
+    ensures cost { steps.new ≤ steps.old + dg_looks (kid_trees (S.trees store.now) kids.now) }
 {
     let Some(side) = before_last(kids) else {
         return Ok(Some(Why::RawFact));
@@ -218,9 +241,7 @@ fn dg_conditions<S: Store, L: Ledger>(
         return Ok(Some(Why::RawFact));
     };
     let domain = domain_parts(alloc, store, kids, steps)?;
-    if is_smooth(store, domain.as_slice(), a, steps)
-        && is_smooth(store, domain.as_slice(), b, steps)
-    {
+    if are_both_smooth(store, domain.as_slice(), a, b, steps) {
         return Ok(None);
     }
     Ok(Some(Why::GhostNotSmooth))
@@ -234,7 +255,8 @@ fn dg_why<S: Store, L: Ledger>(
     steps: &mut Steps<L>,
 ) -> Result<Option<Why>, AllocError>
     requires { IsId (S.trees store.now) id }
-    ensures { IfOk result (λ why. why ≡ dg_why (tree (S.trees store.now) id)) }
+    ensures why { IfOk result (λ why. why ≡ dg_why (tree (S.trees store.now) id)) }
+    ensures cost { steps.new ≤ steps.old + instance_looks (tree (S.trees store.now) id) }
 {
     let Some(system) = subtree(store, id, &[1, 0, 0], steps) else {
         return Ok(Some(Why::RawFact));
@@ -255,7 +277,8 @@ pub(crate) fn instance_why<S: Store, L: Ledger>(
     steps: &mut Steps<L>,
 ) -> Result<Option<Why>, AllocError>
     requires { IsId (S.trees store.now) id }
-    ensures { IfOk result (λ why. why ≡ instance_why origin (tree (S.trees store.now) id)) }
+    ensures why { IfOk result (λ why. why ≡ instance_why origin (tree (S.trees store.now) id)) }
+    ensures cost { steps.new ≤ steps.old + instance_looks (tree (S.trees store.now) id) }
 {
     match origin {
         RawAxiom::Di => di_why(alloc, store, id, steps),

@@ -1,9 +1,10 @@
 //! The guard: it looks at the lines one by one, and finds the first one that is unguarded.
-ghost use Rattle.std.specs.Prelude.{◌≡◌, IfOk, option_map, length};
+ghost use Rattle.std.specs.Prelude.{◌≡◌, ◌+◌, ◌≤◌, IfOk, option_map, length};
 ghost use Rattle.dlk_sequent.specs.Sequents.{sequent_at, IsKnown};
 ghost use Rattle.dlk_rules.specs.Steps.{step_at, HasKnownIds};
 ghost use Rattle.dlk_guard.specs.Guarded.{raw_axiom, shown, shown_why, made_of, mark_at, mark_of, why_raw, misuse};
 ghost use Rattle.dlk_guard.specs.Watched.{started, watched, verdict};
+ghost use Rattle.dlk_guard.specs.Looks.{shown_looks, made_looks, misuse_looks, line_looks};
 
 use crate::conditions::instance_why;
 use crate::contexts::has_differential_context;
@@ -62,7 +63,8 @@ fn shown_why<S: Store, L: Ledger>(
     steps: &mut Steps<L>,
 ) -> Result<Option<Why>, AllocError>
     requires { IsKnown (S.trees store.now) s.now }
-    ensures { IfOk result (λ why. let t = sequent_at (S.trees store.now) s.now in why ≡ shown_why origin (shown t.ante t.succ)) }
+    ensures why { IfOk result (λ why. let t = sequent_at (S.trees store.now) s.now in why ≡ shown_why origin (shown t.ante t.succ)) }
+    ensures cost { steps.new ≤ steps.old + shown_looks (sequent_at (S.trees store.now) s.now) }
 {
     if s.ante.as_slice().len() != 0 || s.succ.as_slice().len() != 1 {
         return Ok(Some(Why::RawFact));
@@ -79,7 +81,8 @@ fn made_of<S: Store, L: Ledger>(
     steps: &mut Steps<L>,
 ) -> Result<Option<Raw>, AllocError>
     requires { IsKnown (S.trees store.now) s.now }
-    ensures { IfOk result (λ mark. mark ≡ made_of (option_map (λ r. r.now) raw.entry) (sequent_at (S.trees store.now) s.now)) }
+    ensures mark { IfOk result (λ mark. mark ≡ made_of (option_map (λ r. r.now) raw.entry) (sequent_at (S.trees store.now) s.now)) }
+    ensures cost { steps.new ≤ steps.old + shown_looks (sequent_at (S.trees store.now) s.now) }
 {
     let Some(raw) = raw else {
         return Ok(None);
@@ -111,7 +114,8 @@ fn mark_of<S: Store, L: Ledger>(
     steps: &mut Steps<L>,
 ) -> Result<Option<Raw>, AllocError>
     requires { IsKnown (S.trees store.now) s.now }
-    ensures { IfOk result (λ mark. mark ≡ mark_of marks.now (step_at (S.trees store.now) step.now) (sequent_at (S.trees store.now) s.now)) }
+    ensures mark { IfOk result (λ mark. mark ≡ mark_of marks.now (step_at (S.trees store.now) step.now) (sequent_at (S.trees store.now) s.now)) }
+    ensures cost { steps.new ≤ steps.old + made_looks (step_at (S.trees store.now) step.now) (sequent_at (S.trees store.now) s.now) }
 {
     match step {
         Step::Axiom(name) => Ok(raw_axiom(name).map(|origin| Raw {
@@ -152,7 +156,8 @@ fn misuse<S: Store, L: Ledger>(
     steps: &mut Steps<L>,
 ) -> Result<Option<Why>, AllocError>
     requires { HasKnownIds (S.trees store.now) step.now }
-    ensures { IfOk result (λ why. why ≡ misuse marks.now (step_at (S.trees store.now) step.now)) }
+    ensures why { IfOk result (λ why. why ≡ misuse marks.now (step_at (S.trees store.now) step.now)) }
+    ensures cost { steps.new ≤ steps.old + misuse_looks (step_at (S.trees store.now) step.now) }
 {
     match step {
         Step::Axiom(name) if name.bytes() == b"Dforall".as_slice() => Ok(Some(Why::Dforall)),
@@ -198,6 +203,8 @@ impl Guard {
 /// A guard looks at each line.
 impl Watcher for Guard {
     ghost after = { watched };
+
+    ghost looks = { line_looks };
 
     fn see<S: Store, L: Ledger>(
         &mut self,

@@ -1,6 +1,6 @@
 //! The parts of a domain, and what they say.
-ghost use Rattle.std.specs.Prelude.{◌≡◌, [], ◌++◌, List, map, All, OnOk, IfOk, IfSome, MatchOption};
-ghost use Rattle.dlk_tree.specs.Trees.{Tree};
+ghost use Rattle.std.specs.Prelude.{◌≡◌, ◌+◌, ◌*◌, ◌≤◌, [], ◌++◌, List, length, map, All, OnOk, IfOk, IfSome, MatchOption};
+ghost use Rattle.dlk_tree.specs.Trees.{Tree, size, size_all};
 ghost use Rattle.dlk_store.specs.Stores.{IsId, tree, kid_trees};
 ghost use Rattle.dlk_guard.specs.Ends.{AreEnds};
 ghost use Rattle.dlk_guard.specs.Smooth.{is_and, parts, domain_parts, is_zero, is_variable, is_apart, are_term_and_zero, keeps_off_zero, is_kept_off_zero, is_equation, says_constant, is_frozen};
@@ -28,6 +28,7 @@ fn add_parts<S: Store, L: Ledger>(
     requires into { All (IsId (S.trees store.now)) into.old.items }
     ensures parts { OnOk result (map (tree (S.trees store.now)) into.new.items ≡ map (tree (S.trees store.now)) into.old.items ++ parts (tree (S.trees store.now) id)) }
     ensures known { OnOk result (All (IsId (S.trees store.now)) into.new.items) }
+    ensures cost { steps.new ≤ steps.old + size (tree (S.trees store.now) id) }
 {
     let node = store.look(id, steps);
     if !is_and(node.op) {
@@ -50,6 +51,7 @@ pub(crate) fn domain_parts<S: Store, L: Ledger>(
     requires { All (IsId (S.trees store.now)) kids.now }
     ensures parts { IfOk result (λ ids. map (tree (S.trees store.now)) ids.items ≡ domain_parts (kid_trees (S.trees store.now) kids.now)) }
     ensures known { IfOk result (λ ids. All (IsId (S.trees store.now)) ids.items) }
+    ensures cost { steps.new ≤ steps.old + size_all (kid_trees (S.trees store.now) kids.now) }
 {
     let mut ids = Vec::new(alloc);
     let Some(domain) = kids.last() else {
@@ -76,7 +78,8 @@ fn ends(kids: &[Id]) -> Option<(Id, Id)>
 /// Whether the tree is a literal of value 0.
 fn is_zero<S: Store, L: Ledger>(store: &S, id: Id, steps: &mut Steps<L>) -> bool
     requires { IsId (S.trees store.now) id }
-    ensures { result ≡ is_zero (tree (S.trees store.now) id) }
+    ensures value { result ≡ is_zero (tree (S.trees store.now) id) }
+    ensures cost { steps.new ≤ steps.old + 1 }
 {
     match store.look(id, steps).op {
         Op::Number(n) => n.digits == 0,
@@ -87,7 +90,8 @@ fn is_zero<S: Store, L: Ledger>(store: &S, id: Id, steps: &mut Steps<L>) -> bool
 /// Whether the tree is the primed variable of this name.
 fn is_prime<S: Store, L: Ledger>(store: &S, x: &Name, id: Id, steps: &mut Steps<L>) -> bool
     requires { IsId (S.trees store.now) id }
-    ensures { result ≡ is_variable (prime x.now) (tree (S.trees store.now) id) }
+    ensures value { result ≡ is_variable (prime x.now) (tree (S.trees store.now) id) }
+    ensures cost { steps.new ≤ steps.old + 1 }
 {
     match store.look(id, steps).op {
         Op::Variable(v) => v.primed && v.name == *x,
@@ -113,7 +117,8 @@ fn are_term_and_zero<S: Store, L: Ledger>(
     requires term { IsId (S.trees store.now) d }
     requires side { IsId (S.trees store.now) side }
     requires other { IsId (S.trees store.now) other }
-    ensures { result ≡ are_term_and_zero (tree (S.trees store.now) d) (tree (S.trees store.now) side) (tree (S.trees store.now) other) }
+    ensures value { result ≡ are_term_and_zero (tree (S.trees store.now) d) (tree (S.trees store.now) side) (tree (S.trees store.now) other) }
+    ensures cost { steps.new ≤ steps.old + 1 }
 {
     store.same(d, side) && is_zero(store, other, steps)
 }
@@ -122,7 +127,8 @@ fn are_term_and_zero<S: Store, L: Ledger>(
 fn keeps_off_zero<S: Store, L: Ledger>(store: &S, d: Id, part: Id, steps: &mut Steps<L>) -> bool
     requires term { IsId (S.trees store.now) d }
     requires part { IsId (S.trees store.now) part }
-    ensures { result ≡ keeps_off_zero (tree (S.trees store.now) d) (tree (S.trees store.now) part) }
+    ensures value { result ≡ keeps_off_zero (tree (S.trees store.now) d) (tree (S.trees store.now) part) }
+    ensures cost { steps.new ≤ steps.old + 3 }
 {
     let node = store.look(part, steps);
     if !is_apart(node.op) {
@@ -146,7 +152,8 @@ pub(crate) fn is_kept_off_zero<S: Store, L: Ledger>(
 ) -> bool
     requires domain { All (IsId (S.trees store.now)) domain.now }
     requires term { IsId (S.trees store.now) d }
-    ensures { result ≡ is_kept_off_zero (map (tree (S.trees store.now)) domain.now) (tree (S.trees store.now) d) }
+    ensures value { result ≡ is_kept_off_zero (map (tree (S.trees store.now)) domain.now) (tree (S.trees store.now) d) }
+    ensures cost { steps.new ≤ steps.old + 3 * length domain.now }
 {
     for part in domain {
         if keeps_off_zero(store, d, *part, steps) {
@@ -165,7 +172,8 @@ fn is_equation(op: &Op) -> bool
 /// Whether the part is `x'=0`.
 fn says_constant<S: Store, L: Ledger>(store: &S, x: &Name, part: Id, steps: &mut Steps<L>) -> bool
     requires { IsId (S.trees store.now) part }
-    ensures { result ≡ says_constant x.now (tree (S.trees store.now) part) }
+    ensures value { result ≡ says_constant x.now (tree (S.trees store.now) part) }
+    ensures cost { steps.new ≤ steps.old + 3 }
 {
     let node = store.look(part, steps);
     if !is_equation(node.op) {
@@ -185,7 +193,8 @@ pub(crate) fn is_frozen<S: Store, L: Ledger>(
     steps: &mut Steps<L>,
 ) -> bool
     requires { All (IsId (S.trees store.now)) domain.now }
-    ensures { result ≡ is_frozen (map (tree (S.trees store.now)) domain.now) x.now }
+    ensures value { result ≡ is_frozen (map (tree (S.trees store.now)) domain.now) x.now }
+    ensures cost { steps.new ≤ steps.old + 3 * length domain.now }
 {
     for part in domain {
         if says_constant(store, x, *part, steps) {

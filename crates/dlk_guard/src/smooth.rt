@@ -1,8 +1,10 @@
 //! Smooth terms, and the formulas that are made of their comparisons.
-ghost use Rattle.std.specs.Prelude.{◌≡◌, map, All};
+ghost use Rattle.std.specs.Prelude.{◌≡◌, ◌+◌, ◌*◌, ◌≤◌, length, map, All};
+ghost use Rattle.dlk_tree.specs.Trees.{size, size_all};
 ghost use Rattle.dlk_store.specs.Stores.{IsId, tree, kid_trees};
 ghost use Rattle.dlk_calculus.specs.Kids.{last};
 ghost use Rattle.dlk_guard.specs.Smooth.{is_constant_op, is_constant, are_constant, is_whole, ends_in_divisor, joins_smooth, is_smooth, are_smooth, is_connective, is_smooth_formula};
+ghost use Rattle.dlk_guard.specs.Looks.{smooth_looks, smooth_looks_all};
 
 use crate::parts::is_kept_off_zero;
 use dlk_sequent::is_comparison;
@@ -24,7 +26,8 @@ fn is_constant_op(op: &Op) -> bool
 /// Whether the tree is a term without variables: of numbers and functions without arguments.
 fn is_constant<S: Store, L: Ledger>(store: &S, id: Id, steps: &mut Steps<L>) -> bool
     requires { IsId (S.trees store.now) id }
-    ensures { result ≡ is_constant (tree (S.trees store.now) id) }
+    ensures value { result ≡ is_constant (tree (S.trees store.now) id) }
+    ensures cost { steps.new ≤ steps.old + size (tree (S.trees store.now) id) }
 {
     let node = store.look(id, steps);
     if !is_constant_op(node.op) {
@@ -41,7 +44,8 @@ fn is_constant<S: Store, L: Ledger>(store: &S, id: Id, steps: &mut Steps<L>) -> 
 /// Whether each of the trees is.
 fn are_constant<S: Store, L: Ledger>(store: &S, ids: &[Id], steps: &mut Steps<L>) -> bool
     requires { All (IsId (S.trees store.now)) ids.now }
-    ensures { result ≡ are_constant (kid_trees (S.trees store.now) ids.now) }
+    ensures value { result ≡ are_constant (kid_trees (S.trees store.now) ids.now) }
+    ensures cost { steps.new ≤ steps.old + size_all (kid_trees (S.trees store.now) ids.now) }
 {
     for id in ids {
         if !is_constant(store, *id, steps) {
@@ -54,7 +58,8 @@ fn are_constant<S: Store, L: Ledger>(store: &S, ids: &[Id], steps: &mut Steps<L>
 /// Whether the last of these trees is a whole number from 0 on, as a literal.
 fn ends_in_whole<S: Store, L: Ledger>(store: &S, ids: &[Id], steps: &mut Steps<L>) -> bool
     requires { All (IsId (S.trees store.now)) ids.now }
-    ensures { result ≡ is_whole (last (kid_trees (S.trees store.now) ids.now)) }
+    ensures value { result ≡ is_whole (last (kid_trees (S.trees store.now) ids.now)) }
+    ensures cost { steps.new ≤ steps.old + 1 }
 {
     let Some(id) = ids.last() else {
         return false;
@@ -74,7 +79,8 @@ fn ends_in_divisor<S: Store, L: Ledger>(
 ) -> bool
     requires domain { All (IsId (S.trees store.now)) domain.now }
     requires ids { All (IsId (S.trees store.now)) ids.now }
-    ensures { result ≡ ends_in_divisor (map (tree (S.trees store.now)) domain.now) (kid_trees (S.trees store.now) ids.now) }
+    ensures value { result ≡ ends_in_divisor (map (tree (S.trees store.now)) domain.now) (kid_trees (S.trees store.now) ids.now) }
+    ensures cost { steps.new ≤ steps.old + size_all (kid_trees (S.trees store.now) ids.now) + 3 * length domain.now }
 {
     let Some(id) = ids.last() else {
         return false;
@@ -92,7 +98,8 @@ fn joins_smooth<S: Store, L: Ledger>(
 ) -> bool
     requires domain { All (IsId (S.trees store.now)) domain.now }
     requires kids { All (IsId (S.trees store.now)) kids.now }
-    ensures { result ≡ joins_smooth (map (tree (S.trees store.now)) domain.now) op.now (kid_trees (S.trees store.now) kids.now) }
+    ensures value { result ≡ joins_smooth (map (tree (S.trees store.now)) domain.now) op.now (kid_trees (S.trees store.now) kids.now) }
+    ensures cost { steps.new ≤ steps.old + 1 + size_all (kid_trees (S.trees store.now) kids.now) + 3 * length domain.now }
 {
     match op {
         Op::Variable(v) => !v.primed,
@@ -113,7 +120,8 @@ pub(crate) fn is_smooth<S: Store, L: Ledger>(
 ) -> bool
     requires domain { All (IsId (S.trees store.now)) domain.now }
     requires id { IsId (S.trees store.now) id }
-    ensures { result ≡ is_smooth (map (tree (S.trees store.now)) domain.now) (tree (S.trees store.now) id) }
+    ensures value { result ≡ is_smooth (map (tree (S.trees store.now)) domain.now) (tree (S.trees store.now) id) }
+    ensures cost { steps.new ≤ steps.old + smooth_looks (length domain.now) (tree (S.trees store.now) id) }
 {
     let node = store.look(id, steps);
     if !joins_smooth(store, domain, node.op, node.kids, steps) {
@@ -136,7 +144,8 @@ fn are_smooth<S: Store, L: Ledger>(
 ) -> bool
     requires domain { All (IsId (S.trees store.now)) domain.now }
     requires ids { All (IsId (S.trees store.now)) ids.now }
-    ensures { result ≡ are_smooth (map (tree (S.trees store.now)) domain.now) (kid_trees (S.trees store.now) ids.now) }
+    ensures value { result ≡ are_smooth (map (tree (S.trees store.now)) domain.now) (kid_trees (S.trees store.now) ids.now) }
+    ensures cost { steps.new ≤ steps.old + smooth_looks_all (length domain.now) (kid_trees (S.trees store.now) ids.now) }
 {
     for id in ids {
         if !is_smooth(store, domain, *id, steps) {
@@ -164,7 +173,8 @@ pub(crate) fn is_smooth_formula<S: Store, L: Ledger>(
 ) -> bool
     requires domain { All (IsId (S.trees store.now)) domain.now }
     requires id { IsId (S.trees store.now) id }
-    ensures { result ≡ is_smooth_formula (map (tree (S.trees store.now)) domain.now) (tree (S.trees store.now) id) }
+    ensures value { result ≡ is_smooth_formula (map (tree (S.trees store.now)) domain.now) (tree (S.trees store.now) id) }
+    ensures cost { steps.new ≤ steps.old + smooth_looks (length domain.now) (tree (S.trees store.now) id) }
 {
     let node = store.look(id, steps);
     if is_comparison(node.op) {

@@ -1,5 +1,5 @@
 //! Observers of a replay.
-ghost use Rattle.std.specs.Prelude.{◌≡◌, OnOk, OnErr};
+ghost use Rattle.std.specs.Prelude.{◌≡◌, ◌+◌, ◌≤◌, ℕ, OnOk, OnErr};
 ghost use Rattle.dlk_sequent.specs.Sequents.{sequent_at, IsKnown};
 ghost use Rattle.dlk_rules.specs.Steps.{step_at, HasKnownIds};
 ghost use Rattle.dlk_guard.specs.Guarded.{Line};
@@ -14,6 +14,9 @@ use std::sync::ledger::Ledger;
 pub trait Watcher {
     /// What it knows after one line more.
     ghost after: { Self → Line → Self };
+
+    /// How many nodes it looks at for one line, at most.
+    ghost looks: { Line → ℕ };
 
     /// Looks at the next line: at its step, and at the conclusion of the row that the step gives. Their ids are those of the store.
     ///
@@ -31,7 +34,8 @@ pub trait Watcher {
         requires step { HasKnownIds (S.trees store.now) step.now }
         requires conclusion { IsKnown (S.trees store.now) conclusion.now }
         ensures ok { OnOk result (self.new ≡ after self.old (record { step = step_at (S.trees store.now) step.now; conclusion = sequent_at (S.trees store.now) conclusion.now })) }
-        ensures err { OnErr result (self.new ≡ self.old) };
+        ensures err { OnErr result (self.new ≡ self.old) }
+        ensures cost { steps.new ≤ steps.old + looks (record { step = step_at (S.trees store.now) step.now; conclusion = sequent_at (S.trees store.now) conclusion.now }) };
 }
 
 /// A watcher that sees nothing.
@@ -40,6 +44,8 @@ pub struct Unwatched;
 
 impl Watcher for Unwatched {
     ghost after = { λ it _. it };
+
+    ghost looks = { λ _. 0 };
 
     fn see<S: Store, L: Ledger>(
         &mut self,

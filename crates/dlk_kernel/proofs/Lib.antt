@@ -1,4 +1,5 @@
 pub mod Growth
+mod GoalLists
 pub mod Measured
 pub mod Limited
 pub mod LimitRows

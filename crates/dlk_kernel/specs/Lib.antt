@@ -1,3 +1,4 @@
+pub mod Goals
 pub mod Kernel
 pub mod Faults
 pub mod Limits

@@ -3,6 +3,7 @@
 
 mod axioms;
 mod fault;
+mod goals;
 mod kernel;
 mod leaves;
 mod limits;

@@ -5,6 +5,7 @@ ghost use Rattle.dlk_calculus.specs.Axioms.{AxiomaticRule, rule_named};
 ghost use Rattle.dlk_axioms.specs.Answers.{Finds};
 ghost use Rattle.dlk_kernel.specs.Named.{IsRowOf, IsRowNamed, AreRows, IsRuleNamed};
 
+use crate::goals::Goals;
 use crate::row::Row;
 use dlk_sequent::{Listed, Shared, shared_each};
 use dlk_store::{Store, StoreFault};
@@ -45,7 +46,7 @@ fn make_row<S: Store>(alloc: Global, store: &mut S, name: &Name) -> Result<Optio
     };
     let conclusion = Shared::new(alloc, conclusion)?;
     let leaves = Shared::new(alloc, Listed::new(alloc))?;
-    let goals = shared_each(alloc, premises)?;
+    let goals = Goals::of(shared_each(alloc, premises)?);
     Ok(Some(Row {
         conclusion,
         goals,

@@ -5,6 +5,7 @@ ghost use Rattle.dlk_calculus.specs.Rename.{swap};
 ghost use Rattle.dlk_calculus.specs.Provables.{swap_sequent};
 ghost use Rattle.dlk_sequent.specs.Sequents.{sequent_at, IsKnown};
 
+use crate::goals::Goals;
 use dlk_rename::swap;
 use dlk_sequent::{Listed, Sequent, Shared};
 use dlk_store::{Id, Steps, Store, StoreFault};
@@ -61,17 +62,17 @@ pub(crate) fn swap_sequents<S: Store, L: Ledger>(
     x: &Name,
     y: &Name,
     steps: &mut Steps<L>,
-) -> Result<Listed<Shared<Sequent>>, StoreFault>
+) -> Result<Goals, StoreFault>
     requires { All (IsKnown (S.trees store.old)) all.now }
     ensures made { IfOk result (λ made. map (sequent_at (S.trees store.new)) made ≡ map (swap_sequent x.now y.now) (map (sequent_at (S.trees store.old)) all.now)) }
     ensures known { IfOk result (All (IsKnown (S.trees store.new))) }
     ensures grows { S.grows store.old store.new }
 {
-    let mut made = Listed::new(alloc);
+    let mut made = Goals::new();
     for s in all {
         let swapped = swap_sequent(alloc, store, s.value(), x, y, steps)?;
         let swapped = Shared::new(alloc, swapped)?;
-        made.push(swapped)?;
+        made = made.with(alloc, swapped)?;
     }
     Ok(made)
 }

@@ -1,5 +1,6 @@
 ghost use Rattle.std.specs.Prelude.{◌≡◌, IfOk};
 
+use crate::goals::Goals;
 use dlk_sequent::{Listed, Sequent, Shared};
 use std::alloc::{AllocError, Global};
 
@@ -7,7 +8,7 @@ use std::alloc::{AllocError, Global};
 #[derive(Drop, Debug)]
 pub struct Row {
     pub conclusion: Shared<Sequent>,
-    pub goals: Listed<Shared<Sequent>>,
+    pub goals: Goals,
     pub leaves: Shared<Listed<Shared<Sequent>>>,
 }
 
@@ -17,7 +18,7 @@ impl Row {
         ensures { IfOk result (λ row. row ≡ self.now) }
     {
         let conclusion = self.conclusion.share()?;
-        let goals = self.goals.share_with_room(alloc, 0)?;
+        let goals = self.goals.share(alloc)?;
         let leaves = self.leaves.share()?;
         Ok(Row {
             conclusion,

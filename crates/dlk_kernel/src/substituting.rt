@@ -16,41 +16,29 @@ ghost use Rattle.dlk_kernel.specs.Looks.{sequent_looks, provable_looks};
 ghost use Rattle.dlk_memo.specs.Looks.{most_looks};
 
 use crate::fault::StepFault;
+use crate::goals::Goals;
 use crate::row::Row;
 use dlk_calculus::Reason;
-use dlk_memo::{ApplyFault, apply};
-use dlk_sequent::{Listed, Pair, Sequent, Shared, Subst, SubstFault};
+use dlk_memo::{ApplyFault, apply_of};
+use dlk_sequent::{Listed, Pair, Sequent, Shared, SubstFault, SubstOf};
 use dlk_store::{Id, Steps, Store};
-use std::alloc::{AllocError, Global};
+use std::alloc::Global;
 use std::sync::ledger::Ledger;
 
-/// The same pairs once more.
-fn copy_pairs(alloc: Global, pairs: &[Pair]) -> Result<Vec<Pair>, AllocError>
-    ensures { IfOk result (λ copies. copies.items ≡ pairs.now) }
-{
-    let mut copies = Vec::new(alloc);
-    for pair in pairs {
-        let sym = pair.sym.clone()?;
-        copies.push(Pair { sym, by: pair.by })?;
-    }
-    Ok(copies)
-}
-
 /// The substitution of the pairs.
-pub(crate) fn substitution<S: Store, L: Ledger>(
+pub(crate) fn substitution<'a, S: Store, L: Ledger>(
     alloc: Global,
     store: &S,
-    pairs: &[Pair],
+    pairs: &'a [Pair],
     steps: &mut Steps<L>,
-) -> Result<Subst, StepFault>
+) -> Result<SubstOf<'a>, StepFault>
     requires { AreKnownPairs (S.trees store.now) pairs.now }
     ensures pairs { IfOk result (λ sigma. sigma.pairs ≡ pairs.now) }
     ensures made { IfOk result (IsMadeOver (S.trees store.now)) }
     ensures ill { IfErr result (IsStepFault (λ why. (why ≡ IllSubst) × (¬ IsWellFormed (pairs_at (S.trees store.now) pairs.now)))) }
     ensures looks { steps.new ≤ steps.old + 2 * length pairs.now }
 {
-    let copies = copy_pairs(alloc, pairs)?;
-    match Subst::new(alloc, store, copies, steps) {
+    match SubstOf::new(alloc, store, pairs, steps) {
         Ok(sigma) => Ok(sigma),
         Err(SubstFault::Ill { .. }) => Err(StepFault::Refused(Reason::IllSubst)),
         Err(SubstFault::Memory) => Err(StepFault::Memory),
@@ -65,7 +53,7 @@ pub(crate) fn substitution<S: Store, L: Ledger>(
 fn subst_ids<S: Store, L: Ledger>(
     alloc: Global,
     store: &mut S,
-    sigma: &Subst,
+    sigma: &SubstOf<'_>,
     ids: &[Id],
     steps: &mut Steps<L>,
 ) -> Result<Listed<Id>, ApplyFault>
@@ -79,7 +67,7 @@ fn subst_ids<S: Store, L: Ledger>(
 {
     let mut made = Listed::new(alloc);
     for id in ids {
-        let substituted = apply(alloc, store, sigma, *id, steps)?;
+        let substituted = apply_of(alloc, store, sigma, *id, steps)?;
         made.push(substituted)?;
     }
     Ok(made)
@@ -93,7 +81,7 @@ fn subst_ids<S: Store, L: Ledger>(
 fn subst_sequent<S: Store, L: Ledger>(
     alloc: Global,
     store: &mut S,
-    sigma: &Subst,
+    sigma: &SubstOf<'_>,
     s: &Sequent,
     steps: &mut Steps<L>,
 ) -> Result<Sequent, ApplyFault>
@@ -118,10 +106,10 @@ fn subst_sequent<S: Store, L: Ledger>(
 fn subst_sequents<S: Store, L: Ledger>(
     alloc: Global,
     store: &mut S,
-    sigma: &Subst,
+    sigma: &SubstOf<'_>,
     all: &[Shared<Sequent>],
     steps: &mut Steps<L>,
-) -> Result<Listed<Shared<Sequent>>, ApplyFault>
+) -> Result<Goals, ApplyFault>
     requires sigma { IsMadeOver (S.trees store.old) sigma.now }
     requires known { All (IsKnown (S.trees store.old)) all.now }
     ensures made { IfOk result (λ made. SubstSequents (pairs_at (S.trees store.old) sigma.now.pairs) (map (sequent_at (S.trees store.old)) all.now) (map (sequent_at (S.trees store.new)) made)) }
@@ -130,11 +118,11 @@ fn subst_sequents<S: Store, L: Ledger>(
     ensures grows { S.grows store.old store.new }
     ensures looks { IsTrue S.unique → steps.new ≤ steps.old + sum_by (sequent_looks (pairs_at (S.trees store.old) sigma.now.pairs)) (map (sequent_at (S.trees store.old)) all.now) }
 {
-    let mut made = Listed::new(alloc);
+    let mut made = Goals::new();
     for s in all {
         let substituted = subst_sequent(alloc, store, sigma, s.value(), steps)?;
         let substituted = Shared::new(alloc, substituted)?;
-        made.push(substituted)?;
+        made = made.with(alloc, substituted)?;
     }
     Ok(made)
 }
@@ -147,7 +135,7 @@ fn subst_sequents<S: Store, L: Ledger>(
 pub(crate) fn subst_row<S: Store, L: Ledger>(
     alloc: Global,
     store: &mut S,
-    sigma: &Subst,
+    sigma: &SubstOf<'_>,
     row: &Row,
     steps: &mut Steps<L>,
 ) -> Result<Row, ApplyFault>
@@ -171,7 +159,7 @@ pub(crate) fn subst_row<S: Store, L: Ledger>(
 }
 
 /// Whether the row has a goal, and some variable is free in what replaces a function or a predicate.
-pub(crate) fn is_free_over_goals(sigma: &Subst, row: &Row) -> bool
+pub(crate) fn is_free_over_goals(sigma: &SubstOf<'_>, row: &Row) -> bool
     ensures { (trees : List Tree) → IsMadeOver trees sigma.now → (IsTrue result ↔ (IsFreeIn (pairs_at trees sigma.now.pairs) × (0 < length row.now.goals))) }
 {
     sigma.free() && !row.goals.as_slice().is_empty()

@@ -259,8 +259,5 @@ module _ {near far : Table} (h : AreParts near far) (id : Id) (r : Option Id) wh
     far_parts once = parts_far near far new id r put once none h
 
 -- a table that is as it was has its parts
-pub once_near : {near far new : Table} → AreParts near far → new ≡ near → HasEachOnce (new ++ far)
-once_near {near} {far} h is = subst (λ t. HasEachOnce (t ++ far)) (sym is) (once_both h)
-
 pub once_far : {near far new : Table} → AreParts near far → new ≡ far → HasEachOnce (near ++ new)
 once_far {near} {far} h is = subst (λ t. HasEachOnce (near ++ t)) (sym is) (once_both h)

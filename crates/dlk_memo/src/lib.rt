@@ -5,11 +5,12 @@ mod binder;
 mod filling;
 mod kids;
 mod memo;
+mod near;
 mod plugging;
 mod results;
 mod rule;
 mod substituting;
 mod walk;
 
-pub use dlk_sequent::{ApplyFault, Pair, Subst, SubstFault, Why};
-pub use memo::apply;
+pub use dlk_sequent::{ApplyFault, Pair, Subst, SubstFault, SubstOf, Why};
+pub use memo::{apply, apply_of};

@@ -9,7 +9,7 @@ ghost use Rattle.dlk_sequent.specs.declared.fault.ApplyFault.TheVariants.{NotAdm
 
 use crate::substituting::Substituting;
 use crate::walk::run;
-use dlk_sequent::{ApplyFault, Subst};
+use dlk_sequent::{ApplyFault, Subst, SubstOf};
 use dlk_store::{Id, Steps, Store};
 use std::alloc::Global;
 use std::sync::ledger::Ledger;
@@ -46,4 +46,27 @@ pub fn apply<S: Store, L: Ledger>(
         pairs: sigma.pairs(),
     };
     run(alloc, store, &substituting, id, steps)
+}
+
+/// The same for a substitution whose pairs stand elsewhere.
+///
+/// # Errors
+///
+/// As `apply`.
+pub fn apply_of<S: Store, L: Ledger>(
+    alloc: Global,
+    store: &mut S,
+    sigma: &SubstOf<'_>,
+    id: Id,
+    steps: &mut Steps<L>,
+) -> Result<Id, ApplyFault>
+    requires made { IsMadeOver (S.trees store.old) sigma.now }
+    requires known { IsId (S.trees store.old) id }
+    ensures ok { IfOk result (IsResult (IsSubst (pairs_at (S.trees store.old) sigma.now.pairs) (tree (S.trees store.old) id)) (S.trees store.new)) }
+    ensures none { result ≡ Err NotAdmissible → HasNone (IsSubst (pairs_at (S.trees store.old) sigma.now.pairs) (tree (S.trees store.old) id)) }
+    ensures grows { S.grows store.old store.new }
+    ensures cost { IsTrue S.unique → steps.new ≤ steps.old + most_looks (pairs_at (S.trees store.old) sigma.now.pairs) (tree (S.trees store.old) id) }
+{
+    let pairs = sigma.pairs();
+    run(alloc, store, &Substituting { pairs }, id, steps)
 }

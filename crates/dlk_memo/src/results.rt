@@ -3,20 +3,18 @@ ghost use Rattle.std.specs.Prelude.{◌≡◌, ◌+◌, ◌≤◌, [], length, p
 ghost use Rattle.dlk_subst.specs.Looked.{same_id};
 ghost use Rattle.dlk_memo.specs.Tables.{found, HasEachOnce, Puts};
 
+use crate::near::Near;
 use dlk_store::Id;
 use std::alloc::{AllocError, Global};
 use std::collections::HashMap;
 use std::marker::Model;
-
-/// So many entries stand in a row. Most tables have fewer, and a row takes memory in one piece.
-const MOST_NEAR: usize = 16;
 
 /// What was made of trees, by their ids. A tree that is still being made has no result. Contracts see it as a list.
 ///
 /// The first entries stand in a row that is looked through, further ones in a map.
 #[derive(Drop)]
 pub(crate) struct Results {
-    near: Vec<(Id, Option<Id>)>,
+    near: Near,
     far: HashMap<Id, Option<Id>>,
 }
 
@@ -26,9 +24,9 @@ impl Model for Results {
 
     ghost Value = { Table };
 
-    ghost view = { λ r. r.near.items ++ r.far.entries };
+    ghost view = { λ r. r.near ++ r.far.entries };
 
-    ghost invariant = { λ r. AreParts r.near.items r.far.entries };
+    ghost invariant = { λ r. AreParts r.near r.far.entries };
 }
 
 /// The place in a row at which the id stands.
@@ -44,7 +42,7 @@ impl Results {
         ensures once { HasEachOnce result }
     {
         Results {
-            near: Vec::new(alloc),
+            near: Near::new(),
             far: HashMap::new(alloc),
         }
     }
@@ -55,8 +53,9 @@ impl Results {
         ensures found { result ≡ found self.now id }
         ensures once { HasEachOnce self.now }
     {
-        match place(self.near.as_slice(), id) {
-            Some(i) => Some(self.near[i].1),
+        let near = self.near.as_slice();
+        match place(near, id) {
+            Some(i) => Some(near[i].1),
             None => self.far.get(&id).copied(),
         }
     }
@@ -69,8 +68,7 @@ impl Results {
         ensures err { OnErr result (self.new ≡ self.old) }
         ensures once { HasEachOnce self.new }
     {
-        if self.near.len() < MOST_NEAR {
-            self.near.push((id, None))?;
+        if self.near.push(id) {
             return Ok(());
         }
         self.far.insert(id, None)?;
@@ -85,7 +83,7 @@ impl Results {
         ensures once { HasEachOnce self.new }
     {
         if let Some(i) = place(self.near.as_slice(), id) {
-            self.near[i] = (id, Some(made));
+            self.near.set(i, id, made);
             return Ok(());
         }
         self.far.insert(id, Some(made))?;

@@ -6,6 +6,7 @@ pub mod NumberBack
 pub mod OpsRead
 pub mod Parted
 pub mod Numbered
+pub mod NumbersRead
 pub mod Readings
 pub mod OneNode
 pub mod SomeNode

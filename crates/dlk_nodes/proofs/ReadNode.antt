@@ -13,7 +13,7 @@ use Rattle.dlk_calculus.proofs.PlaceLaws.{At_All}
 use Rattle.dlk_store.specs.declared.Id.{Id}
 use Rattle.dlk_store.specs.Stores.{IsId, tree, kid_trees, sorts_at, Keeps, StandsFor, HasOneId}
 use Rattle.dlk_lines.specs.Numbers.{IsNumber}
-use Rattle.dlk_lines.specs.Parts.{CutAt}
+use Rattle.dlk_lines.specs.Parts.{CutAt, NumberThen}
 use Rattle.dlk_lines.specs.Spelled.{NamesEach, none_behind, one_behind}
 use Rattle.dlk_nodes.specs.Nodes.{has_node, NamesNode, op_and_kids, IsNew, IsNode, new_node, IsNodeLine, node_line, TakesKids, IsRead}
 use Rattle.dlk_nodes.specs.Tables.{nodes_at, has}
@@ -161,23 +161,15 @@ module _ (old new : List Tree) (keeps : Keeps old new) (one : HasOneId new) (tab
 
 -- ---- lines
 
-pub no_head : (nodes : List Tree) (line : List ℕ) → ((rest : List ℕ) → line ≡ codes "node " ++ rest → ⊥) → (m : ℕ) (t : Tree) → ¬ IsNodeLine nodes line m t
-no_head nodes line none m t is = let q = line_parts nodes line m t is in none q.behind q.line_is
-
 module _ (nodes : List Tree) (line behind : List ℕ) (head : line ≡ codes "node " ++ behind) where
-  pub no_space : ((front rest : List ℕ) → behind ≡ front ++ 32 ∷ rest → ⊥) → (m : ℕ) (t : Tree) → ¬ IsNodeLine nodes line m t
-  no_space none m t is =
+  pub no_number : ((n : ℕ) (rest : List ℕ) → ¬ NumberThen behind 32 n rest) → (m : ℕ) (t : Tree) → ¬ IsNodeLine nodes line m t
+  no_number none m t is =
       let q = line_parts nodes line m t is in
       let e : codes "node " ++ q.behind ≡ codes "node " ++ behind = sym q.line_is ∙ head in
       let same : q.behind ≡ behind = cc in
-      none q.digits q.text (sym same ∙ q.cut.text_is)
+      none m q.text (record { digits = q.digits; is_number = q.number_is; text_is = sym same ∙ q.cut.text_is })
 
   module _ (digits text : List ℕ) (cut : CutAt behind 32 digits text) where
-    pub no_number : ((m : ℕ) → ¬ IsNumber digits m) → (m : ℕ) (t : Tree) → ¬ IsNodeLine nodes line m t
-    no_number none m t is =
-        let q = line_parts nodes line m t is in
-        none m (subst (λ d. IsNumber d m) (same_parts nodes line behind digits text m t head cut q).0 q.number_is)
-
     pub no_node : ((t : Tree) → ¬ IsNode nodes text t) → (m : ℕ) (t : Tree) → ¬ IsNodeLine nodes line m t
     no_node none m t is =
         let q = line_parts nodes line m t is in

@@ -92,12 +92,12 @@ pub(crate) fn op_and_kids(
     ensures fault { IfErr result (IsNodeFaultOf ((op : TreeOp) (kids : List TreeId) → ¬ IsRead table.now text.now op kids)) }
 {
     let (word, behind) = front_of(text);
+    if let Some(op) = plain_op(word) {
+        let kids = nodes_behind(alloc, behind, table)?;
+        return Ok((op, kids));
+    }
     let Ok(word) = str::from_utf8(word) else {
         return Err(NodeFault::Malformed);
     };
-    let Some(op) = plain_op(word) else {
-        return with_detail(alloc, word, behind, table);
-    };
-    let kids = nodes_behind(alloc, behind, table)?;
-    Ok((op, kids))
+    with_detail(alloc, word, behind, table)
 }

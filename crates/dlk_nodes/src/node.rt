@@ -1,5 +1,5 @@
 //! Node lines, read.
-ghost use Rattle.std.specs.Prelude.{◌≡◌, ◌+◌, ◌≤◌, ℕ, length, All, Err, IsTrue, IfOk, IfErr};
+ghost use Rattle.std.specs.Prelude.{◌≡◌, ◌+◌, ◌≤◌, ◌++◌, ℕ, length, All, Err, IsTrue, IfOk, IfErr, codes};
 ghost use Rattle.dlk_tree.specs.Trees.{Tree};
 ghost use Rattle.dlk_calculus.specs.Limits.{IsSmall, IsShallow};
 ghost use Rattle.dlk_store.specs.Stores.{IsId, tree, sorts_at};
@@ -13,7 +13,7 @@ use crate::calls::op_and_kids;
 use crate::fault::NodeFault;
 use crate::table::NodeTable;
 use dlk_calculus::{GREATEST_DEPTH, MOST_NODES};
-use dlk_lines::{cut_at, number};
+use dlk_lines::number_before;
 use dlk_store::{Id, Steps, Store};
 use dlk_tree::{Sort, fits, sort_of};
 use std::alloc::{AllocError, Global};
@@ -77,31 +77,25 @@ pub(crate) fn read_node<S: Store, L: Ledger>(
     Ok(id)
 }
 
-/// The number and the new node of which this is the line.
+/// The number and the new node of the line that this text stands in behind its word.
 pub(crate) fn node_line<S: Store, L: Ledger>(
     alloc: Global,
-    line: &[u8],
+    text: &[u8],
     table: &NodeTable,
     store: &mut S,
     steps: &mut Steps<L>,
 ) -> Result<(u32, Id), NodeFault>
     requires unique { IsTrue S.unique }
     requires known { All (IsId (S.trees store.old)) table.now }
-    ensures found { IfOk result (λ p. IsNodeLine (nodes_at (S.trees store.old) table.now) line.now p.0 (tree (S.trees store.new) p.1)) }
+    ensures found { IfOk result (λ p. IsNodeLine (nodes_at (S.trees store.old) table.now) (codes "node " ++ text.now) p.0 (tree (S.trees store.new) p.1)) }
     ensures known { IfOk result (λ p. IsId (S.trees store.new) p.1) }
-    ensures fault { IfErr result (IsNodeFaultOf ((n : ℕ) (t : Tree) → ¬ IsNodeLine (nodes_at (S.trees store.old) table.now) line.now n t)) }
-    ensures memory { result ≡ Err Memory → NodeLineWants line.now }
+    ensures fault { IfErr result (IsNodeFaultOf ((n : ℕ) (t : Tree) → ¬ IsNodeLine (nodes_at (S.trees store.old) table.now) (codes "node " ++ text.now) n t)) }
+    ensures memory { result ≡ Err Memory → NodeLineWants (codes "node " ++ text.now) }
     ensures grows { S.grows store.old store.new }
 {
-    let Some(text) = line.strip_prefix(b"node ".as_slice()) else {
+    let Some((number, node)) = number_before(text, b' ') else {
         return Err(NodeFault::Malformed);
     };
-    let Some((digits, text)) = cut_at(text, b' ') else {
-        return Err(NodeFault::Malformed);
-    };
-    let Some(number) = number(digits) else {
-        return Err(NodeFault::Malformed);
-    };
-    let id = read_node(alloc, text, table, store, steps)?;
+    let id = read_node(alloc, node, table, store, steps)?;
     Ok((number, id))
 }

@@ -7,7 +7,7 @@ ghost use Rattle.dlk_nodes.specs.Faults.{IsNodeFaultOf};
 
 use crate::fault::NodeFault;
 use crate::table::NodeTable;
-use dlk_lines::{cut_at, number};
+use dlk_lines::{number, number_before};
 use dlk_store::Id;
 use std::alloc::Global;
 
@@ -26,8 +26,8 @@ fn nodes_numbered(alloc: Global, text: &[u8], table: &NodeTable) -> Result<Vec<I
 {
     let mut ids = Vec::new(alloc);
     let mut left = text;
-    while let Some((field, behind)) = cut_at(left, b' ') {
-        let Some(id) = node_numbered(field, table) else {
+    while let Some((number, behind)) = number_before(left, b' ') {
+        let Some(id) = table.node(number) else {
             return Err(NodeFault::Malformed);
         };
         ids.push(id)?;

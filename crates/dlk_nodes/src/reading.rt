@@ -12,6 +12,7 @@ use crate::by_nodes::NodesRead;
 use crate::fault::NodeFault;
 use crate::line::Line2;
 use crate::node::node_line;
+use crate::parts::behind;
 use crate::table::NodeTable;
 use dlk_lines::read_step_line;
 use dlk_store::{Steps, Store};
@@ -43,8 +44,8 @@ pub fn read_node_line<S: Store, L: Ledger>(
     if line == b"done".as_slice() {
         return Ok(Line2::Done);
     }
-    if line.starts_with(b"node ".as_slice()) {
-        let (number, id) = node_line(alloc, line, table, store, steps)?;
+    if let Some(text) = behind(line, b"node ") {
+        let (number, id) = node_line(alloc, text, table, store, steps)?;
         return Ok(Line2::Node { number, id });
     }
     let mut spelled = NodesRead { table, steps };

@@ -1,5 +1,5 @@
 //! Numbers.
-ghost use Rattle.std.specs.Prelude.{◌≡◌, ◌+◌, ◌/◌, ◌%◌, ◌^◌, [], ◌∷◌};
+ghost use Rattle.std.specs.Prelude.{◌≡◌, ◌+◌, ◌/◌, ◌%◌, ◌^◌, ◌<◌, [], ◌∷◌};
 ghost use Rattle.std.specs.Fmt.{decimal};
 ghost use Rattle.dlk_grammar.specs.Shown.{literal, last_digits};
 ghost use Rattle.dlk_print.specs.Printed.{Appends};
@@ -22,11 +22,28 @@ fn append_digit(out: &mut Vec<u8>, n: u128) -> Result<(), PrintFault>
 pub fn append_decimal(out: &mut Vec<u8>, n: u128) -> Result<(), PrintFault>
     ensures { Appends out.old.items out.new.items (decimal n) result }
 {
-    if n < 10 {
-        return append_digit(out, n);
+    if n < 1_000_000_000 {
+        return append_short(out, n as u32);
     }
     append_decimal(out, n / 10)?;
     append_digit(out, n)
+}
+
+/// Appends a number of at most nine digits, all of them at once.
+fn append_short(out: &mut Vec<u8>, n: u32) -> Result<(), PrintFault>
+    requires { n < 1000000000 }
+    ensures { Appends out.old.items out.new.items (decimal n) result }
+{
+    let mut digits = [b'0'; 9];
+    let mut first = 8;
+    let mut left = n;
+    while left > 9 {
+        digits[first] = b'0' + (left % 10) as u8;
+        left /= 10;
+        first -= 1;
+    }
+    digits[first] = b'0' + left as u8;
+    append(out, &digits[first..])
 }
 
 /// Appends the last digits of the number, as many as the width says.

@@ -21,6 +21,7 @@ use dlk_nodes::{Line2, NodeFault, NodeTable, read_node_line};
 use dlk_rules::{Step, step_stays};
 use dlk_store::{Id, Steps, Store};
 use dlk_termtext::{Line, LineFault, read_line};
+use memchr::memchr;
 use std::alloc::{AllocError, Global};
 use std::sync::ledger::Ledger;
 
@@ -235,10 +236,5 @@ fn line_end(left: &[u8]) -> usize
     ensures place { result ≡ position_or_len is_line_feed left.now }
     ensures within { result ≤ length left.now }
 {
-    for (i, b) in left.iter().enumerate() {
-        if *b == b'\n' {
-            return i;
-        }
-    }
-    left.len()
+    memchr(b'\n', left).unwrap_or(left.len())
 }

@@ -51,6 +51,11 @@ symbols_more trees pairs i p old new h e are more s =
     let next : suc i ≡ i + 1 = omega arith in
     more s ∙ ap (λ b. b || sym_eq s p.sym) (are s) ∙ sym (any_more trees s pairs i p h e) ∙ ap (λ n. any_of s (pairs_at trees (take n pairs))) next
 
+-- the symbol stands in pairs of ids as it does in those of trees
+pub any_here : (trees : List Tree) (s : Sym) (pairs : List Pair) → list_any (λ (p : Pair). sym_eq s p.sym) pairs ≡ any_of s (pairs_at trees pairs)
+any_here trees s [] = refl
+any_here trees s (p ∷ pairs) = ap (λ b. sym_eq s p.sym || b) (any_here trees s pairs)
+
 -- ---- the first bad one
 
 -- none of the first i pairs is bad

@@ -14,6 +14,7 @@ mod shared;
 mod spine;
 mod subst;
 mod symbols;
+mod well_formed;
 mod why;
 
 pub use arithmetic::{is_arith, is_comparison};
@@ -27,4 +28,4 @@ pub use same::same_sequent;
 pub use sequent::{Place, Sequent};
 pub use shared::{Shared, shared_each};
 pub use spine::{Innermost, Spine, Turn};
-pub use subst::{Pair, Subst};
+pub use subst::{Pair, Subst, SubstOf};

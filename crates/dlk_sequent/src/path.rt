@@ -1,5 +1,5 @@
 //! Paths into the trees of a store.
-ghost use Rattle.std.specs.Prelude.{◌≡◌, [], ◌∷◌, None, MatchOption, IfOk, IfErr};
+ghost use Rattle.std.specs.Prelude.{◌≡◌, ◌+◌, ◌≤◌, [], ◌∷◌, None, length, MatchOption, IfOk, IfErr};
 ghost use Rattle.dlk_store.specs.Stores.{IsId, tree};
 ghost use Rattle.dlk_calculus.specs.Paths.{subtree};
 ghost use Rattle.dlk_sequent.specs.Spines.{LeadsTo, IsPut, IsPutFault};
@@ -18,7 +18,8 @@ pub(crate) fn kid_at<S: Store, L: Ledger>(
     steps: &mut Steps<L>,
 ) -> Option<Id>
     requires { IsId (S.trees store.now) id }
-    ensures { MatchOption result (subtree (tree (S.trees store.now) id) (n ∷ []) ≡ None) (LeadsTo (S.trees store.now) id (n ∷ [])) }
+    ensures kid { MatchOption result (subtree (tree (S.trees store.now) id) (n ∷ []) ≡ None) (LeadsTo (S.trees store.now) id (n ∷ [])) }
+    ensures cost { steps.new ≤ steps.old + 1 }
 {
     match store.look(id, steps).kids.get(n as usize) {
         Some(kid) => Some(*kid),
@@ -27,7 +28,7 @@ pub(crate) fn kid_at<S: Store, L: Ledger>(
 }
 
 /// The subtree at a path: the numbers of the kids that lead to it, counted from 0. None comes exactly where the path leaves the
-/// tree. It takes no memory.
+/// tree. It takes no memory, and at most a look for each kid of the path.
 pub fn subtree<S: Store, L: Ledger>(
     store: &S,
     id: Id,
@@ -35,7 +36,8 @@ pub fn subtree<S: Store, L: Ledger>(
     steps: &mut Steps<L>,
 ) -> Option<Id>
     requires { IsId (S.trees store.now) id }
-    ensures { MatchOption result (subtree (tree (S.trees store.now) id) path.now ≡ None) (LeadsTo (S.trees store.now) id path.now) }
+    ensures found { MatchOption result (subtree (tree (S.trees store.now) id) path.now ≡ None) (LeadsTo (S.trees store.now) id path.now) }
+    ensures cost { steps.new ≤ steps.old + length path.now }
 {
     let mut at = id;
     for kid in path {

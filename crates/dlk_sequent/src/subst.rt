@@ -9,8 +9,7 @@ ghost use Rattle.dlk_calculus.specs.Pairs.{IsFreeIn};
 ghost use Rattle.dlk_sequent.specs.Substitutions.{pairs_at, AreKnownPairs, IsMadeOver, IsIllFault};
 
 use crate::fault::SubstFault;
-use crate::symbols::Symbols;
-use crate::why::why;
+use crate::well_formed::check;
 use dlk_store::{Id, Steps, Store};
 use dlk_tree::{Sym, kind_row};
 use std::alloc::Global;
@@ -39,6 +38,21 @@ impl Model for Subst {
     ghost Value = { Checked };
 
     ghost view = { λ s. record { pairs = s.pairs.items; free = s.free } };
+}
+
+/// A uniform substitution as `Subst` is one, whose pairs stand elsewhere. Only `SubstOf::new` makes one, and it copies nothing.
+#[derive(Drop, Debug)]
+pub struct SubstOf<'a> {
+    pairs: &'a [Pair],
+    free: bool,
+}
+
+impl<'a> Model for SubstOf<'a> {
+    ghost use Rattle.dlk_sequent.specs.Substitutions.{Checked};
+
+    ghost Value = { Checked };
+
+    ghost view = { λ s. record { pairs = s.pairs.now; free = s.free } };
 }
 
 /// Whether the pair replaces a function or a predicate, and some variable is free in the replacement.
@@ -82,14 +96,7 @@ impl Subst {
         ensures ill { IfErr result (IsIllFault (S.trees store.now) pairs.items) }
         ensures cost { steps.new ≤ steps.old + 2 * length pairs.items }
     {
-        let mut earlier = Symbols::new(alloc);
-        for i in 0..pairs.len() {
-            let pair = &pairs[i];
-            if let Some(why) = why(store, &earlier, pair, steps)? {
-                return Err(SubstFault::Ill { pair: i + 1, why });
-            }
-            earlier.insert(&pair.sym)?;
-        }
+        check(alloc, store, &pairs, steps)?;
         let free = is_free_in(store, &pairs);
         Ok(Subst { pairs, free })
     }
@@ -104,6 +111,45 @@ impl Subst {
     /// Whether some variable is free in the replacement of a function or a predicate, for rules that forbid such a
     /// substitution. It was found at making, and holds over each store that this is a substitution over. It takes no step and no
     /// memory.
+    pub fn free(&self) -> bool
+        ensures value { result ≡ self.now.free }
+        ensures over { (trees : List Tree) → IsMadeOver trees self.now → (IsTrue result ↔ IsFreeIn (pairs_at trees self.now.pairs)) }
+    {
+        self.free
+    }
+}
+
+impl<'a> SubstOf<'a> {
+    /// The substitution of these pairs, as `Subst::new` makes one of pairs that it is given.
+    ///
+    /// # Errors
+    ///
+    /// As `Subst::new`.
+    pub fn new<S: Store, L: Ledger>(
+        alloc: Global,
+        store: &S,
+        pairs: &'a [Pair],
+        steps: &mut Steps<L>,
+    ) -> Result<SubstOf<'a>, SubstFault>
+        requires known { AreKnownPairs (S.trees store.now) pairs.now }
+        ensures pairs { IfOk result (λ sigma. sigma.pairs ≡ pairs.now) }
+        ensures made { IfOk result (IsMadeOver (S.trees store.now)) }
+        ensures ill { IfErr result (IsIllFault (S.trees store.now) pairs.now) }
+        ensures cost { steps.new ≤ steps.old + 2 * length pairs.now }
+    {
+        check(alloc, store, pairs, steps)?;
+        let free = is_free_in(store, pairs);
+        Ok(SubstOf { pairs, free })
+    }
+
+    /// The pairs, in the order in which they were given.
+    pub fn pairs(&self) -> &'a [Pair]
+        ensures { result.now ≡ self.now.pairs }
+    {
+        self.pairs
+    }
+
+    /// Whether some variable is free in the replacement of a function or a predicate, as `Subst::free` says it.
     pub fn free(&self) -> bool
         ensures value { result ≡ self.now.free }
         ensures over { (trees : List Tree) → IsMadeOver trees self.now → (IsTrue result ↔ IsFreeIn (pairs_at trees self.now.pairs)) }

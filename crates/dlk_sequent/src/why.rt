@@ -1,5 +1,7 @@
 //! What speaks against a pair of a substitution: a function for each reason, and one for the first that applies.
 ghost use Rattle.std.specs.Prelude.{◌≡◌, ◌+◌, ◌≤◌, ◌&&◌, not, All, List, IfOk};
+ghost use Rattle.std.specs.List.{list_any};
+ghost use Rattle.dlk_tree.specs.Tests.{sym_eq};
 ghost use Rattle.dlk_tree.specs.Table.{kind_row};
 ghost use Rattle.dlk_tree.specs.Trees.{node, root};
 ghost use Rattle.dlk_tree.specs.Occurs.{has, has_hole};
@@ -7,10 +9,8 @@ ghost use Rattle.dlk_store.specs.Stores.{IsId, tree, kid_trees};
 ghost use Rattle.dlk_calculus.specs.Kids.{last};
 ghost use Rattle.dlk_calculus.specs.Pairs.{Pair as TreePair, is_true, is_system_without_domain, is_of_kind, is_dot_from, touched, has_taboo, why};
 ghost use Rattle.dlk_sequent.specs.Substitutions.{pair_at};
-ghost use Rattle.dlk_sequent.specs.SymbolSets.{AreSymbolsOf};
 
 use crate::subst::Pair;
-use crate::symbols::Symbols;
 use dlk_calculus::Why;
 use dlk_store::{Id, Steps, Store};
 use dlk_tree::{Kind, Op, Sym, Var, kind_row, sort_of};
@@ -104,23 +104,23 @@ fn has_taboo<S: Store>(store: &S, s: &Sym, id: Id) -> Result<bool, AllocError>
     Ok(touches(store, s.kind, id, &prime))
 }
 
-/// The first reason against a pair that stands behind earlier ones, whose symbols these are, in the order of `Why`. It takes at
-/// most two steps.
+/// The first reason against a pair that stands behind earlier ones, in the order of `Why`. It is told whether one of these has the
+/// pair's symbol. It takes at most two steps.
 pub(crate) fn why<S: Store, L: Ledger>(
     store: &S,
-    earlier: &Symbols,
+    twice: bool,
     pair: &Pair,
     steps: &mut Steps<L>,
 ) -> Result<Option<Why>, AllocError>
     requires { IsId (S.trees store.now) pair.now.by }
-    ensures why { (pairs : List TreePair) → AreSymbolsOf pairs earlier.now → IfOk result (λ w. w ≡ why pairs (pair_at (S.trees store.now) pair.now)) }
+    ensures why { (pairs : List TreePair) → twice ≡ list_any (λ (p : TreePair). sym_eq pair.now.sym p.sym) pairs → IfOk result (λ w. w ≡ why pairs (pair_at (S.trees store.now) pair.now)) }
     ensures cost { steps.new ≤ steps.old + 2 }
 {
     let kind = pair.sym.kind;
     if !is_of_kind(store, kind, pair.by, steps) {
         return Ok(Some(Why::Sort));
     }
-    if earlier.has(&pair.sym) {
+    if twice {
         return Ok(Some(Why::Twice));
     }
     if has_dot_from(store, pair.sym.arity, pair.by) {

@@ -2,6 +2,7 @@ pub mod Bits
 pub mod Found
 pub mod PlainToo
 pub mod Primes
+pub mod RowLemmas
 pub mod SetLemmas
 pub mod KidSets
 pub mod SetsGrow

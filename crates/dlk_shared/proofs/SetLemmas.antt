@@ -1,12 +1,11 @@
 -- What sets stand for while their table grows, and what is made of them.
-use Rattle.std.proofs.Common.{◌≡◌, ◌↔◌, IsTrue, not, true≢false, take, get_or, Option, None, ◌+◌, ℕ, suc, ◌<◌, ◌≤◌, Bool, true, false, cond, ◌||◌}
-use Rattle.std.proofs.Common.{◌&&◌, List, [], ◌∷◌, ◌++◌, length, Some, Result, Ok, Err, IfOk, refl, sym, ap, subst, ◌∙◌, arith, rules, length-append}
-use Rattle.std.proofs.lemmas.List.{append-nil, append_assoc, get_or_append_left, take_more}
+use Rattle.std.proofs.Common.{◌≡◌, ◌↔◌, IsTrue, not, true≢false, take, get_or, Option, None, ◌+◌, ℕ, suc, ◌<◌, Bool, true, false, ◌||◌}
+use Rattle.std.proofs.Common.{◌&&◌, List, [], ◌∷◌, ◌++◌, length, Some, Result, Ok, Err, IfOk, refl, sym, ap, subst, ◌∙◌, arith, rules}
+use Rattle.std.proofs.lemmas.List.{append-nil, append_assoc, take_more}
 use Rattle.std.proofs.lemmas.List.Quantifiers.{position-Some}
 use Rattle.std.specs.Bool.{beq, Decides}
 use Rattle.std.specs.Str.{bytes_eq}
 use Rattle.std.specs.List.{list_any}
-use Rattle.indexmap.specs.IndexSet.{insert_key}
 use Rattle.dlk_tree.specs.Tests.{var_eq}
 use Rattle.dlk_tree.specs.Statics.{none, just, plain, prime, with_prime, and_primes, either, without, Sets}
 use Rattle.dlk_tree.specs.declared.op.Var.{Var}
@@ -14,7 +13,7 @@ use Rattle.dlk_vars.specs.Rows.{Row, row_eq, has_number}
 use Rattle.std.specs.Option.{option_map_or}
 use Rattle.std.proofs.lemmas.List.Folds.{list_any-append}
 use Rattle.dlk_vars.specs.Tables.{number_of, Grows}
-use Rattle.dlk_vars.specs.Sets.{StandsFor, Gains}
+use Rattle.dlk_vars.specs.Sets.{has, IsWithin, StandsFor, Gains, Picks}
 use Rattle.dlk_vars.proofs.Members.{has_stays, within_stays}
 use Rattle.std.specs.Prelude.{All, map}
 use Rattle.std.proofs.Math.Bool.{and-true, or-false}
@@ -23,6 +22,7 @@ use Rattle.dlk_store.specs.declared.listing.Which.TheVariants.{Free, Bound, Must
 use Rattle.dlk_shared.specs.declared.node.NodeSets.{NodeSets}
 use Rattle.dlk_shared.specs.SetTables.{SetTable, row_at, Holds, Means, MeanSets, Keeps, Makes, MakesPrimes, IsNone, set_at, sets_at, IsSet, AreSets}
 use Rattle.dlk_shared.specs.SetTables.{number_in, set_in}
+use Rattle.dlk_shared.specs.RowTables.{IsEmptyAt, KeepsRows}
 
 pub Grows-refl : (vars : List Var) → Grows vars vars
 Grows-refl vars = record { more = []; is = sym (append-nil vars) }
@@ -97,28 +97,41 @@ both_marks x v = by (bytes_eq v.name x) v.primed
 
 -- ---- a set more
 
-module _ (eq : Row → Row → Bool) (sets : List Row) (r : Row) where
-  pub record KeepsRows (new : List Row) : Type 0 where
-    pub long : length sets ≤ length new
-    pub same : (n : ℕ) → n < length sets → row_at new n ≡ row_at sets n
-
-  pub inserted_rows : KeepsRows (insert_key eq sets r)
-  inserted_rows = elim (list_any (eq r) sets) as (λ b. KeepsRows (cond b sets (sets ++ r ∷ []))) [
-    | true ↦ record { long = omega arith; same = λ n h. refl }
-    | false ↦ record {
-      long = omega (arith, length-append sets (r ∷ []));
-      same = λ n h. get_or_append_left sets (r ∷ [])
-          (record { words = []; others = false }) n h;
-    }
-  ]
-
-pub inserted_keeps : (eq : Row → Row → Bool) (old : SetTable) (vars : List Var) (sets new : List Row) (r : Row) → vars ≡ old.vars → sets ≡ old.sets
-    → new ≡ insert_key eq sets r
+pub rows_keep : (old : SetTable) (vars : List Var) (rows new : List Row) → vars ≡ old.vars → rows ≡ old.sets → KeepsRows rows new
     → Keeps old (record { vars = vars; sets = new })
-inserted_keeps eq old vars sets new r same_vars same_sets is =
-    let k = subst (λ l. KeepsRows eq sets r l) (sym is) (inserted_rows eq sets r) in
-    let from = subst (λ l. (length l ≤ length new) × ((n : ℕ) → n < length l → row_at new n ≡ row_at l n)) same_sets (k.long, k.same) in
-    record { vars = subst (λ vs. Grows vs vars) same_vars (Grows-refl vars); sets = from.0; same = from.1 }
+rows_keep old vars rows new same_vars same_sets k = record {
+  vars = subst (λ vs. Grows vs vars) same_vars (Grows-refl vars);
+  sets = omega (arith, k.long, ap length same_sets);
+  same = λ n h. k.same n (omega (arith, h, ap length same_sets)) ∙ ap (λ l. row_at l n) same_sets;
+}
+
+-- the place of the empty set
+pub empty_means : {E : Type 0} (r : Result ℕ E) (vars : List Var) (rows : List Row) → IfOk r (IsEmptyAt rows)
+    → IfOk r (λ n. Means (record { vars = vars; sets = rows }) n none)
+empty_means (Ok n) vars rows e = record { known = e.known; holds = record { members = e.vars.members vars; within = e.vars.within vars } }
+empty_means (Err x) vars rows e = tt
+
+-- the place of a set that is picked of two
+pub picked_makes : {E : Type 0} (r : Result ℕ E) (pick : (Var → Bool) → (Var → Bool) → Var → Bool) (old : SetTable) (a b : ℕ) (vars : List Var)
+    (rows new : List Row) → vars ≡ old.vars → rows ≡ old.sets → IfOk r (λ n. n < length new)
+    → IfOk r (λ n. Picks pick (row_at rows a) (row_at rows b) (row_at new n)) → IfOk r (Makes pick old a b (record { vars = vars; sets = new }))
+picked_makes (Ok n) pick old a b vars rows new same_vars same_sets known picks = record {
+  means = λ s t m k.
+      let one = row_at old.sets a in
+      let other = row_at old.sets b in
+      let chosen = subst (λ l. Picks pick (row_at l a) (row_at l b) (row_at new n)) same_sets picks in
+      let p : has vars one ≡ s = λ i v. ((λ j. has (same_vars j) one v) ∙ m.holds.members v) i in
+      let q : has vars other ≡ t = λ i v. ((λ j. has (same_vars j) other v) ∙ k.holds.members v) i in
+      record {
+        known = known;
+        holds = record {
+          members = λ v. chosen.members vars v ∙ (λ i. pick (p i) (q i) v);
+          within = chosen.within vars (subst (λ vs. IsWithin vs one) (sym same_vars) m.holds.within)
+              (subst (λ vs. IsWithin vs other) (sym same_vars) k.holds.within);
+        };
+      };
+}
+picked_makes (Err x) pick old a b vars rows new same_vars same_sets known picks = tt
 
 -- ---- what numbers stand for, whatever it is
 
@@ -199,12 +212,6 @@ module _ (t : SetTable) (n : ℕ) (answer : Bool) (some : IsTrue (not answer) �
 
   pub none_in : IsNone t n
   none_in = record { none = λ set m v. sym (m.holds.members v) ∙ no_member m (number_of t.vars v) }
-
-pub either_none : {t : SetTable} {a b : ℕ} → IsNone t b → Makes either t a b t a
-either_none empty = record { means = λ s r m k. means_same (λ v. sym (ap (λ x. s v || x) (empty.none r k v) ∙ or-false (s v))) m }
-
-pub none_either : {t : SetTable} {a b : ℕ} → IsNone t a → Makes either t a b t b
-none_either empty = record { means = λ s r m k. means_same (λ v. sym (ap (λ x. x || r v) (empty.none s m v))) k }
 
 pub without_none : {t : SetTable} {a b : ℕ} → IsNone t b → Makes without t a b t a
 without_none empty = record { means = λ s r m k. means_same (λ v. sym (ap (λ x. s v && not x) (empty.none r k v) ∙ and-true (s v))) m }

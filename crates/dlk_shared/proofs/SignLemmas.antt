@@ -14,8 +14,9 @@ use Rattle.dlk_tree.specs.Tests.{sym_eq}
 use Rattle.dlk_tree.specs.declared.op.OdeItem.{OdeItem}
 use Rattle.dlk_tree.specs.declared.op.OdeItem.TheVariants.{Evolve, Const}
 use Rattle.dlk_tree.specs.declared.op.Sym.{Sym}
-use Rattle.dlk_vars.specs.Rows.{Row, has_number}
+use Rattle.dlk_vars.specs.Rows.{Row, has_number, ByNumber}
 use Rattle.dlk_shared.specs.SetTables.{row_at}
+use Rattle.dlk_shared.specs.RowTables.{IsEmptyAt, KeepsRows}
 use Rattle.dlk_shared.specs.Signs.{SignTable, stands, sign_at, IsSign, Signs, KeepsSigns}
 
 -- ---- symbols at the numbers that pass
@@ -123,6 +124,41 @@ row_signs (Ok n) new syms row set known is same within members = record {
   members = λ s. (λ i. stands (has_number (is i)) 0 (same i) s) ∙ members s;
 }
 row_signs (Err e) new syms row set known is same within members = tt
+
+-- ---- rows of the table
+
+pub rows_keep_signs : (old : SignTable) (syms : List Sym) (rows new : List Row) → syms ≡ old.syms → rows ≡ old.signs → KeepsRows rows new
+    → KeepsSigns old (record { syms = syms; signs = new })
+rows_keep_signs old syms rows new same_syms same_rows k = record {
+  more = [];
+  syms = same_syms ∙ sym (append-nil old.syms);
+  signs = omega (arith, k.long, ap length same_rows);
+  same = λ n h. k.same n (omega (arith, h, ap length same_rows)) ∙ ap (λ l. row_at l n) same_rows;
+}
+
+pub empty_signs : {E : Type 0} (r : Result ℕ E) (syms : List Sym) (rows : List Row) → IfOk r (IsEmptyAt rows)
+    → IfOk r (λ n. Signs (record { syms = syms; signs = rows }) n (λ _. false))
+empty_signs (Ok n) syms rows e = record {
+  is = record { known = e.known; within = λ m l. e.numbers m };
+  members = λ s. stands_none (has_number (row_at rows n)) 0 syms s (λ m l. e.numbers m);
+}
+empty_signs (Err x) syms rows e = tt
+
+pub union_signs : {E : Type 0} (r : Result ℕ E) (old : SignTable) (a b : ℕ) (syms : List Sym) (rows new : List Row) → syms ≡ old.syms → rows ≡ old.signs
+    → IsSign old a → IsSign old b → IfOk r (λ n. n < length new) → IfOk r (λ n. ByNumber ◌||◌ (row_at rows a) (row_at rows b) (row_at new n))
+    → IfOk r (λ n. Signs (record { syms = syms; signs = new }) n (λ s. sign_at old a s || sign_at old b s))
+union_signs (Ok n) old a b syms rows new same_syms same_rows first second known joined =
+    let x = row_at old.signs a in
+    let y = row_at old.signs b in
+    let numbers : (m : ℕ) → has_number (row_at new n) m ≡ (has_number x m || has_number y m) =
+    λ m. joined.numbers m ∙ (λ i. has_number (row_at (same_rows i) a) m || has_number (row_at (same_rows i) b) m) in
+    let past : (m : ℕ) → length syms ≤ m → length old.syms ≤ m = λ m l. omega (arith, l, ap length same_syms) in
+    record {
+      is = record { known = known; within = λ m l. numbers m ∙ (λ i. first.within m (past m l) i || second.within m (past m l) i) };
+      members = λ s. stands_or (has_number x) (has_number y) (has_number (row_at new n)) 0 syms s numbers
+          ∙ (λ i. stands (has_number x) 0 (same_syms i) s || stands (has_number y) 0 (same_syms i) s);
+    }
+union_signs (Err z) old a b syms rows new same_syms same_rows first second known joined = tt
 
 -- the symbols of kids come to those of what stands before them
 pub signs_same : {t : SignTable} {n : ℕ} {s r : Sym → Bool} → ((x : Sym) → s x ≡ r x) → Signs t n s → Signs t n r

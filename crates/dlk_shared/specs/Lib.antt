@@ -1,9 +1,11 @@
 pub mod Ids
+pub mod Mixed
 pub mod Rows
 pub mod Growth
 pub mod Nodes
 pub mod Shapes
 pub mod SetTables
+pub mod RowTables
 pub mod Signs
 pub mod Kept
 pub mod Sound

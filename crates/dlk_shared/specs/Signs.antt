@@ -26,10 +26,6 @@ pub record IsSign (t : SignTable) (n : ℕ) : Type 0 where
   pub known : n < length t.signs
   pub within : (m : ℕ) → length t.syms ≤ m → has_number (row_at t.signs n) m ≡ false
 
--- no symbol is in the signature of this number
-pub record HasNone (t : SignTable) (n : ℕ) : Type 0 where
-  pub none : (s : Sym) → sign_at t n s ≡ false
-
 -- the number stands for these symbols
 pub record Signs (t : SignTable) (n : ℕ) (set : Sym → Bool) : Type 0 where
   pub is : IsSign t n

@@ -3,7 +3,6 @@ ghost use Rattle.std.specs.Prelude.{◌≡◌, IfOk};
 
 use dlk_store::Id;
 use std::alloc::{AllocError, Global};
-use std::hash::{Hash, Hasher};
 use std::marker::Model;
 
 /// Ids in a row. Up to two stand in the value itself, as almost every node has no more; further ones stand elsewhere, so that the value stays small.
@@ -84,17 +83,4 @@ impl Eq for Kids {
     ghost use Rattle.dlk_store.specs.contracts.IdEq.TheImpl.Laws.{laws-law as id_equiv};
 
     ghost laws = { lists_equiv id_equiv };
-}
-
-impl Hash for Kids {
-    ghost use Rattle.std.specs.Hash.{slice, items_Alike};
-    ghost use Rattle.dlk_store.specs.contracts.IdHash.TheImpl.Laws.{respects_eq-law as id_respects};
-
-    ghost hash_input = { slice ⟦<Id as Hash>⟧.hash_input };
-
-    ghost respects_eq = { (items_Alike (record { fed = id_respects })).fed };
-
-    fn hash<H: Hasher>(&self, state: &mut H) {
-        self.as_slice().hash(state);
-    }
 }

@@ -4,6 +4,7 @@
 mod kids;
 mod listed;
 mod node;
+mod rows;
 mod sets;
 mod shape;
 mod signs;

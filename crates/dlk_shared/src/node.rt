@@ -4,11 +4,16 @@ ghost use Rattle.dlk_tree.specs.Table.{has_parts};
 ghost use Rattle.dlk_tree.specs.Occurs.{is_hole};
 ghost use Rattle.dlk_shared.specs.Kept.{dot_bit};
 ghost use Rattle.dlk_shared.specs.SetTables.{number_in};
+ghost use Rattle.dlk_shared.specs.Mixed.{mixed};
 
 use crate::kids::Kids;
-use dlk_store::Which;
+use dlk_store::{Id, Which};
 use dlk_tree::Op;
 use dlk_vars::VarFault;
+use std::hash::{Hash, Hasher};
+
+/// What a number is multiplied by before the next is added: odd, and such that its multiples by small numbers lie far apart.
+const MULTIPLIER: u64 = 0x9e37_79b9_7f4a_7c15;
 
 /// A place in a table in four bytes. A table is full where its places need more, which counts as want of memory.
 pub fn narrow(n: usize) -> Result<u32, VarFault>
@@ -22,10 +27,35 @@ pub fn narrow(n: usize) -> Result<u32, VarFault>
 }
 
 /// What a node is known by: the number of its operator, and its kids.
-#[derive(PartialEq, Eq, Hash, Drop)]
+#[derive(PartialEq, Eq, Drop)]
 pub struct Key {
     pub op: u32,
     pub kids: Kids,
+}
+
+/// A table hashes one number in place of the whole key.
+impl Hash for Key {
+    ghost use Rattle.std.specs.Hash as fed;
+    ghost use Rattle.dlk_shared.specs.Mixed.{mixed, mixed_alike};
+
+    ghost hash_input = { λ k. fed.u64 (mixed k.op k.kids) };
+
+    ghost respects_eq = { λ a b h. mixed_alike a.op b.op a.kids b.kids h };
+
+    fn hash<H: Hasher>(&self, state: &mut H) {
+        state.write_u64(mixed(self.op, self.kids.as_slice()));
+    }
+}
+
+/// The number of an operator and the ids of kids, mixed to one number.
+fn mixed(op: u32, kids: &[Id]) -> u64
+    ensures { result ≡ mixed op kids.now }
+{
+    let mut all = u64::from(op);
+    for id in kids {
+        all = all.wrapping_mul(MULTIPLIER).wrapping_add(id.0 as u64);
+    }
+    all
 }
 
 /// The numbers of the three sets of a node's tree.

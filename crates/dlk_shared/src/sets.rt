@@ -11,11 +11,11 @@ ghost use Rattle.dlk_tree.specs.declared.op.Op.TheVariants.{System};
 ghost use Rattle.dlk_shared.specs.SetTables.{row_at, set_at, IsSet, IsNone, Means, MeanSets, Keeps, Makes, MakesPrimes, GainsPrime};
 
 use crate::listed::{list_var, vars_in_order};
-use crate::node::{NodeSets, narrow};
+use crate::node::NodeSets;
+use crate::rows::RowTable;
 use dlk_store::{Listing, Vars, Which};
 use dlk_tree::{Name, OdeItem, Op, Var};
 use dlk_vars::{VarFault, VarNo, VarSet, VarTable};
-use indexmap::IndexSet;
 use std::alloc::Global;
 use std::collections::BTreeSet;
 use std::marker::Model;
@@ -24,7 +24,7 @@ use std::marker::Model;
 #[derive(Drop)]
 pub struct SetTable {
     vars: VarTable,
-    sets: IndexSet<VarSet>,
+    rows: RowTable,
 }
 
 impl Model for SetTable {
@@ -32,7 +32,7 @@ impl Model for SetTable {
 
     ghost Value = { Table };
 
-    ghost view = { λ t. record { vars = t.vars; sets = t.sets.keys } };
+    ghost view = { λ t. record { vars = t.vars; sets = t.rows } };
 
     ghost invariant = { λ t. ArePlainToo t.vars };
 }
@@ -45,12 +45,12 @@ impl SetTable {
     {
         SetTable {
             vars: VarTable::new(alloc),
-            sets: IndexSet::new(alloc),
+            rows: RowTable::new(alloc),
         }
     }
 
     fn alloc(&self) -> Global {
-        *self.sets.allocator()
+        self.rows.alloc()
     }
 
     /// The set of a number.
@@ -58,7 +58,7 @@ impl SetTable {
         requires { n < length self.now.sets }
         ensures { result.now ≡ row_at self.now.sets n }
     {
-        &self.sets.as_slice()[n as usize]
+        self.rows.at(n)
     }
 
     /// Whether the variable is in the set.
@@ -116,8 +116,7 @@ impl SetTable {
         ensures vars { self.new.vars ≡ self.old.vars }
         ensures keeps { Keeps self.old self.new }
     {
-        let (n, _) = self.sets.insert_full(set)?;
-        narrow(n)
+        self.rows.keep(set)
     }
 
     /// The empty set.
@@ -125,8 +124,7 @@ impl SetTable {
         ensures means { IfOk result (λ n. Means self.new n none) }
         ensures keeps { Keeps self.old self.new }
     {
-        let set = VarSet::empty(self.alloc());
-        self.keep(set)
+        self.rows.none()
     }
 
     /// The set of all variables.
@@ -326,17 +324,7 @@ impl SetTable {
         ensures makes { IfOk result (Makes either self.old a b self.new) }
         ensures keeps { Keeps self.old self.new }
     {
-        if a == b {
-            return Ok(a);
-        }
-        if self.is_none(b) {
-            return Ok(a);
-        }
-        if self.is_none(a) {
-            return Ok(b);
-        }
-        let set = self.set(a).union(self.set(b))?;
-        self.keep(set)
+        self.rows.union(a, b)
     }
 
     /// What is in both sets.

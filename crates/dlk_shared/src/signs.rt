@@ -1,14 +1,13 @@
 //! Signatures, each kept once.
-ghost use Rattle.std.specs.Prelude.{◌≡◌, ◌<◌, ◌||◌, ◌∷◌, [], false, not, length, IfOk, IsTrue, All, Some, slice_get};
+ghost use Rattle.std.specs.Prelude.{◌≡◌, ◌<◌, ◌||◌, ◌∷◌, [], false, length, IfOk, All, Some, slice_get};
 ghost use Rattle.std.specs.List.{list_any};
 ghost use Rattle.dlk_tree.specs.Occurs.{constants, has_symbol};
 ghost use Rattle.dlk_tree.specs.Tests.{sym_eq};
-ghost use Rattle.dlk_vars.specs.Sets.{IsNonempty};
 ghost use Rattle.dlk_shared.specs.SetTables.{row_at};
-ghost use Rattle.dlk_shared.specs.Signs.{sign_at, IsSign, HasNone, Signs, KeepsSigns, AreSymbols};
+ghost use Rattle.dlk_shared.specs.Signs.{sign_at, IsSign, Signs, KeepsSigns, AreSymbols};
 
 use crate::listed::{list_symbol, symbols_in_order};
-use crate::node::narrow;
+use crate::rows::RowTable;
 use dlk_tree::{OdeItem, Op, Sym};
 use dlk_vars::{VarFault, VarNo, VarSet};
 use indexmap::IndexSet;
@@ -20,7 +19,7 @@ use std::marker::Model;
 #[derive(Drop)]
 pub struct SignTable {
     syms: IndexSet<Sym>,
-    signs: IndexSet<VarSet>,
+    rows: RowTable,
 }
 
 impl Model for SignTable {
@@ -28,7 +27,7 @@ impl Model for SignTable {
 
     ghost Value = { Table };
 
-    ghost view = { λ t. record { syms = t.syms.keys; signs = t.signs.keys } };
+    ghost view = { λ t. record { syms = t.syms.keys; signs = t.rows } };
 }
 
 impl SignTable {
@@ -39,7 +38,7 @@ impl SignTable {
     {
         SignTable {
             syms: IndexSet::new(alloc),
-            signs: IndexSet::new(alloc),
+            rows: RowTable::new(alloc),
         }
     }
 
@@ -48,7 +47,7 @@ impl SignTable {
         requires { n < length self.now.signs }
         ensures { result.now ≡ row_at self.now.signs n }
     {
-        &self.signs.as_slice()[n as usize]
+        self.rows.at(n)
     }
 
     /// The number of a signature, which is kept if it isn't yet.
@@ -58,8 +57,7 @@ impl SignTable {
         ensures syms { self.new.syms ≡ self.old.syms }
         ensures keeps { KeepsSigns self.old self.new }
     {
-        let (n, _) = self.signs.insert_full(set)?;
-        narrow(n)
+        self.rows.keep(set)
     }
 
     /// The number of a symbol.
@@ -76,8 +74,7 @@ impl SignTable {
         ensures signs { IfOk result (λ n. Signs self.new n (λ _. false)) }
         ensures keeps { KeepsSigns self.old self.new }
     {
-        let set = VarSet::empty(*self.signs.allocator());
-        self.keep(set)
+        self.rows.none()
     }
 
     /// The signature with this symbol.
@@ -91,15 +88,6 @@ impl SignTable {
         self.keep(set)
     }
 
-    /// Whether the signature has no symbol.
-    fn is_none(&self, n: u32) -> bool
-        requires { n < length self.now.signs }
-        ensures some { IsNonempty (not result) (row_at self.now.signs n) }
-        ensures none { IsTrue result → HasNone self.now n }
-    {
-        self.sign(n).is_empty()
-    }
-
     /// The symbols of either signature.
     fn either(&mut self, a: u32, b: u32) -> Result<u32, VarFault>
         requires first { IsSign self.old a }
@@ -107,17 +95,7 @@ impl SignTable {
         ensures signs { IfOk result (λ n. Signs self.new n (λ t. sign_at self.old a t || sign_at self.old b t)) }
         ensures keeps { KeepsSigns self.old self.new }
     {
-        if a == b {
-            return Ok(a);
-        }
-        if self.is_none(b) {
-            return Ok(a);
-        }
-        if self.is_none(a) {
-            return Ok(b);
-        }
-        let set = self.sign(a).union(self.sign(b))?;
-        self.keep(set)
+        self.rows.union(a, b)
     }
 
     /// The signature with the constant that the item may be.

@@ -78,8 +78,9 @@ fn is_safe<S: Store>(store: &S, pair: &Pair, scope: &Scope, kids: &[Id]) -> bool
     requires kids { All (IsId (S.trees store.now)) kids.now }
     ensures { IsTrue result ↔ (IsTrue ((kind_row pair.now.sym.kind).arguments && any_has (has_symbol pair.now.sym) (kid_trees (S.trees store.now) kids.now)) → AreApart (scope_set (S.trees store.now) scope.now) (free (tree (S.trees store.now) pair.now.by))) }
 {
-    let occurs = kind_row(pair.sym.kind).arguments && any_mentions(store, kids, &pair.sym);
-    !occurs || is_apart(store, scope, pair.by)
+    !kind_row(pair.sym.kind).arguments
+        || is_apart(store, scope, pair.by)
+        || !any_mentions(store, kids, &pair.sym)
 }
 
 /// Whether no variable of the scope is free in the replacement of a function or predicate that occurs in the kids. Where the scope

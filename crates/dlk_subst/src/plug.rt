@@ -38,7 +38,7 @@ fn is_safe<S: Store>(store: &S, arg: Id, n: u8, scope: &Scope, kids: &[Id]) -> b
     requires kids { All (IsId (S.trees store.now)) kids.now }
     ensures { IsTrue result ↔ (IsTrue (any_has (is_dot n) (kid_trees (S.trees store.now) kids.now)) → AreApart (scope_set (S.trees store.now) scope.now) (free (tree (S.trees store.now) arg))) }
 {
-    !any_has_dot(store, kids, n) || is_apart(store, scope, arg)
+    is_apart(store, scope, arg) || !any_has_dot(store, kids, n)
 }
 
 /// Whether no variable of the scope is free in an argument whose dot stands in the kids. Where the scope is nothing, no argument is

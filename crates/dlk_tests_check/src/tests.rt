@@ -4,6 +4,7 @@ mod exporting;
 mod guarding;
 mod limits;
 mod models;
+mod orders;
 mod terms;
 mod versions;
 

@@ -156,6 +156,66 @@ words_meet one other k small some =
     let q = number_at other k b.0 b.1 in
     (64 * k + b.0, (λ t. p t && q t) ∙ sym (and_bit (word one k) (word other k) b.0) ∙ b.2)
 
+-- ---- a set within another
+
+-- some number of the other is not in the one
+abbrev pub SomeLeft : Row → Row → Type 0
+SomeLeft one other = (n : ℕ) × IsTrue (has_number other n && not (has_number one n))
+
+-- the bits of the other's word that aren't in the one's
+abbrev pub left_over : Row → Row → ℕ → ℕ
+left_over one other k = bit_and (word other k) (bit_not w64 (word one k))
+
+-- where no word so far has such a bit, some number is left where the flags say so
+pub none_left : (one other : Row) (k : ℕ) → length one.words ≤ k → length other.words ≤ k → ((j : ℕ) → j < k → word one j < 2 ^ 64)
+    → ((j : ℕ) → j < k → left_over one other j ≡ 0) → IsTrue (other.others && not one.others) ↔ SomeLeft one other
+none_left one other k left right small none = (
+  λ h. (64 * k, past (64 * k) (omega arith) ∙ h),
+  λ w. by w (cases_lt (w.0 / 64) k),
+)
+  where
+    past : (n : ℕ) → k ≤ n / 64 → (has_number other n && not (has_number one n)) ≡ (other.others && not one.others)
+    past n l = let p = past_number other n (omega (arith, right, l)) in let q = past_number one n (omega (arith, left, l)) in λ i. p i && not (q i)
+
+    by : (w : (n : ℕ) × IsTrue (has_number other n && not (has_number one n))) → (w.0 / 64 < k) ⊎ (k ≤ w.0 / 64) → IsTrue (other.others && not one.others)
+    by w (inl l) =
+        let i = w.0 % 64 in
+        let bit = and_not_bit (word other (w.0 / 64)) (word one (w.0 / 64)) i (small (w.0 / 64) l) (omega arith) in
+        let zero = ap (λ v. bit_at v i == 1) (none (w.0 / 64) l) ∙ ap (λ m. m == 1) (bit_at-zero i) in
+        absurd (true≢false (sym w.1 ∙ sym bit ∙ zero))
+    by w (inr l) = sym (past w.0 l) ∙ w.1
+
+-- a word with such a bit
+pub word_left : (one other : Row) (k : ℕ) → word one k < 2 ^ 64 → left_over one other k < 2 ^ 64 → left_over one other k ≢ 0 → SomeLeft one other
+word_left one other k small less some =
+    let b = some_bit (left_over one other k) less some in
+    let p = number_at other k b.0 b.1 in
+    let q = number_at one k b.0 b.1 in
+    (64 * k + b.0, (λ t. p t && not (q t)) ∙ sym (and_not_bit (word other k) (word one k) b.0 small b.1) ∙ b.2)
+
+-- where none is left, the one is the union
+pub within_union : (answer : Bool) (one other : Row) → IsTrue (not answer) ↔ SomeLeft one other → IsTrue answer → ByNumber ◌||◌ one other one
+within_union answer one other told h = record { numbers = λ n. joins (has_number one n) (has_number other n) (none n); others = flags }
+  where
+    none : (n : ℕ) → (has_number other n && not (has_number one n)) ≡ false
+    none n = by (has_number other n && not (has_number one n)) refl
+      where
+        by : (b : Bool) → (has_number other n && not (has_number one n)) ≡ b → b ≡ false
+        by true e = absurd (true≢false (sym (told.1 (n, e)) ∙ ap not h))
+        by false e = refl
+
+    joins : (a b : Bool) → (b && not a) ≡ false → a ≡ (a || b)
+    joins true b e = refl
+    joins false true e = absurd (true≢false e)
+    joins false false e = refl
+
+    flags : one.others ≡ (one.others || other.others)
+    flags =
+        let n = 64 * (length one.words + length other.words) in
+        let p = past_number one n (omega arith) in
+        let q = past_number other n (omega arith) in
+        joins one.others other.others (sym (λ i. q i && not (p i)) ∙ none n)
+
 -- a set that meets itself
 pub meets_itself : (answer : Bool) (r : Row) → IsTrue answer ↔ SomeShared r r → IsTrue (not (not answer)) ↔ ((n : ℕ) × IsTrue (has_number r n))
 meets_itself answer r h = (

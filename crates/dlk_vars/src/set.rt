@@ -162,6 +162,19 @@ impl VarSet {
         })
     }
 
+    /// Whether each variable of the other set is in this one.
+    pub fn includes(&self, other: &VarSet) -> bool
+        ensures numbers { IsTrue (not result) ↔ ((n : ℕ) × IsTrue (has_number other.now n && not (has_number self.now n))) }
+        ensures vars { IsTrue result → Picks either self.now other.now self.now }
+    {
+        for k in 0..self.words.len().max(other.words.len()) {
+            if other.word(k) & !self.word(k) != 0 {
+                return false;
+            }
+        }
+        self.others || !other.others
+    }
+
     /// Whether some variable is in both sets.
     pub fn meets(&self, other: &VarSet) -> bool
         ensures numbers { IsTrue result ↔ ((n : ℕ) × IsTrue (has_number self.now n && has_number other.now n)) }

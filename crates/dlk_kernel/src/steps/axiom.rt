@@ -8,6 +8,7 @@ ghost use Rattle.dlk_kernel.specs.Named.{AreFormulas};
 
 use crate::axioms::NamedAxioms;
 use crate::fault::StepFault;
+use crate::goals::Goals;
 use crate::row::Row;
 use dlk_calculus::Reason;
 use dlk_sequent::{Listed, Sequent, Shared};
@@ -41,7 +42,7 @@ pub(super) fn axiom<S: Store>(
     };
     let conclusion = Shared::new(alloc, Sequent::alone_right(alloc, formula)?)?;
     let leaves = Shared::new(alloc, Listed::new(alloc))?;
-    let goals = Listed::new(alloc);
+    let goals = Goals::new();
     Ok(Row {
         conclusion,
         goals,

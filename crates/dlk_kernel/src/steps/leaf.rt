@@ -7,6 +7,7 @@ ghost use Rattle.dlk_kernel.specs.Faults.{IsStepFault};
 ghost use Rattle.dlk_kernel.specs.Kernel.{provable_at, IsKnownRow};
 
 use crate::fault::StepFault;
+use crate::goals::Goals;
 use crate::limits::limit_sequents;
 use crate::row::Row;
 use dlk_calculus::Reason;
@@ -45,7 +46,7 @@ pub(super) fn leaf<S: Store, L: Ledger>(
     let leaves = Listed::from_vec(vec![in alloc; own]?);
     limit_sequents(store, leaves.as_slice())?;
     let leaves = Shared::new(alloc, leaves)?;
-    let goals = Listed::new(alloc);
+    let goals = Goals::new();
     Ok(Row {
         conclusion,
         goals,

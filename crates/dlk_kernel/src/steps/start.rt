@@ -7,6 +7,7 @@ ghost use Rattle.dlk_kernel.specs.Faults.{IsStepFault};
 ghost use Rattle.dlk_kernel.specs.Kernel.{provable_at, IsKnownRow};
 
 use crate::fault::StepFault;
+use crate::goals::Goals;
 use crate::limits::limit_sequents;
 use crate::row::Row;
 use dlk_calculus::Reason;
@@ -40,7 +41,7 @@ pub(super) fn start<S: Store, L: Ledger>(
     let conclusion = Shared::new(alloc, s.copy(alloc)?)?;
     let leaves = Shared::new(alloc, Listed::new(alloc))?;
     let goal = conclusion.share()?;
-    let goals = Listed::from_vec(vec![in alloc; goal]?);
+    let goals = Goals::one(goal);
     limit_sequents(store, goals.as_slice())?;
     Ok(Row {
         conclusion,

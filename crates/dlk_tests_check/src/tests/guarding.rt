@@ -56,6 +56,9 @@ fn guards_invariants(rt: HostRuntime) -> Result<(), Fail> {
         ("[{x'=1}]2^x>=0", "unguarded line 15: di-not-smooth"),
         // divisors have no variables, or a part of the domain keeps them off 0
         ("[{x'=1}]x/(2*f())>=x/(1/f())", "guarded"),
+        ("[{x'=1}]x/(1+f())>=x/-f()", "guarded"),
+        ("[{x'=1}]x/(1-f())>=0", "guarded"),
+        ("[{x'=1}]x/f()^2>=0", "guarded"),
         ("[{x'=1}]1/x>=0", "unguarded line 15: di-not-smooth"),
         ("[{x'=1&x!=0}]1/x>=0", "guarded"),
         ("[{x'=1&x>0}]1/x>=0", "guarded"),

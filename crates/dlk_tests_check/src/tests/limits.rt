@@ -11,15 +11,15 @@ use std::sync::ledger::{Blank, Ledger};
 
 /// A term under way: its lines, how many they are, and the number of the fact that the next step is on.
 #[derive(Drop)]
-struct Draft {
-    term: Vec<u8>,
-    lines: usize,
-    fact: usize,
+pub(super) struct Draft {
+    pub term: Vec<u8>,
+    pub lines: usize,
+    pub fact: usize,
 }
 
 impl Draft {
     /// One more line, with this step.
-    fn step(&mut self, alloc: Global, step: &str) -> Result<(), AllocError> {
+    pub fn step(&mut self, alloc: Global, step: &str) -> Result<(), AllocError> {
         self.lines = self.lines.saturating_add(1);
         let number = self.lines;
         let line = format!(in alloc; "{number} {step}\n")?;
@@ -27,7 +27,7 @@ impl Draft {
     }
 
     /// One more line: a rule on a goal of the fact, which gives the next one.
-    fn rule(&mut self, alloc: Global, goal: usize, rule: &str) -> Result<(), AllocError> {
+    pub fn rule(&mut self, alloc: Global, goal: usize, rule: &str) -> Result<(), AllocError> {
         let fact = self.fact;
         let step = format!(in alloc; "apply {fact} {goal} {rule}")?;
         self.step(alloc, step.as_str())?;
@@ -35,14 +35,22 @@ impl Draft {
         Ok(())
     }
 
-    /// A conjunction of so many times `true` taken apart: so many goals.
-    fn take_apart(&mut self, alloc: Global, count: usize) -> Result<(), AllocError> {
-        let mut start = String::from_str(alloc, "start ==> true")?;
-        for _ in 1..count {
-            start.push_str("&true")?;
-        }
+    /// A conjunction of so many times `true` behind this left side, taken apart: so many goals.
+    pub fn take_apart(
+        &mut self,
+        alloc: Global,
+        left: &str,
+        count: usize,
+    ) -> Result<(), AllocError> {
+        let right = trues(alloc, "&", count)?;
+        let start = format!(in alloc; "start {left} ==> {right}")?;
         self.step(alloc, start.as_str())?;
         self.fact = self.lines;
+        self.split(alloc, count)
+    }
+
+    /// The first goal, such a conjunction, taken apart.
+    pub fn split(&mut self, alloc: Global, count: usize) -> Result<(), AllocError> {
         for goal in 1..count {
             self.rule(alloc, goal, "andR(1)")?;
         }
@@ -50,8 +58,18 @@ impl Draft {
     }
 }
 
+/// So many times `true`, with this between.
+pub(super) fn trues(alloc: Global, between: &str, count: usize) -> Result<String, AllocError> {
+    let mut text = String::from_str(alloc, "true")?;
+    for _ in 1..count {
+        text.push_str(between)?;
+        text.push_str("true")?;
+    }
+    Ok(text)
+}
+
 /// A term without lines.
-fn empty(alloc: Global) -> Draft {
+pub(super) fn empty(alloc: Global) -> Draft {
     Draft {
         term: Vec::new(alloc),
         lines: 0,
@@ -62,14 +80,14 @@ fn empty(alloc: Global) -> Draft {
 /// A conjunction of so many times `true` taken apart, without the end of the term.
 fn taken_apart(alloc: Global, count: usize) -> Result<Vec<u8>, AllocError> {
     let mut draft = empty(alloc);
-    draft.take_apart(alloc, count)?;
+    draft.take_apart(alloc, "", count)?;
     Ok(draft.term)
 }
 
 /// A fact with one goal more than this many cuts, in the place of a goal of another with 129.
 fn merged(alloc: Global, cuts: usize) -> Result<Vec<u8>, AllocError> {
     let mut draft = empty(alloc);
-    draft.take_apart(alloc, 129)?;
+    draft.take_apart(alloc, "", 129)?;
     draft.step(alloc, "start ==> true")?;
     draft.fact = draft.lines;
     for _ in 0..cuts {
@@ -246,13 +264,17 @@ fn keeps_to_numbers_of_leaves(rt: HostRuntime) -> Result<(), Fail> {
 fn keeps_to_numbers_of_lines(rt: HostRuntime) -> Result<(), Fail> {
     let alloc = rt.alloc();
     let mut term = Vec::new(alloc);
-    for number in 1..400_002_u32 {
+    for number in 1..400_001_u32 {
         let line = format!(in alloc; "{number} axiom eqrefl\n")?;
         term.extend_from_slice(line.as_bytes())?;
     }
-    term.extend_from_slice(b"done\n")?;
-    let printed = "refused: line 400001: LinesFull\n";
-    answers(&rt, alloc, b"true", &term, 2, printed)?;
+    // an unknown name comes before the number of lines
+    for (name, reason) in [("eqrefl", "LinesFull"), ("boxb", "UnknownName")] {
+        let last = format!(in alloc; "400001 axiom {name}\ndone\n")?;
+        let term = joined(alloc, &term, last.as_bytes(), b"")?;
+        let printed = format!(in alloc; "refused: line 400001: {reason}\n")?;
+        answers(&rt, alloc, b"true", &term, 2, printed.as_str())?;
+    }
     Ok(())
 }
 

@@ -1,4 +1,4 @@
-use Rattle.std.proofs.Common.{◌∙◌, sym}
+use Rattle.std.proofs.Common.{◌∙◌, sym, arith}
 use Rattle.dlk_store.specs.Stores.{tree, kid_trees}
 use Rattle.dlk_store.proofs.Kids.{kid_smaller}
 use Rattle.dlk_derive.proofs.Kids.{all_kids, term_over}
@@ -12,7 +12,8 @@ loop-kid-init g t c =
     let e = c.look-node.ensures.node in
     let every = all_kids trees c.args.id op ks (g.met.S.Store.well_made c.args.store.now) c.requires e in
     record {
-      rest = sym (term_over (tree trees c.args.id) op (kid_trees trees ks) e every (sym c.joins_terms.ensures ∙ c.if-not-joins_terms.false));
+      rest = sym (term_over (tree trees c.args.id) op (kid_trees trees ks) e every (sym c.joins_terms.ensures.value ∙ c.if-not-joins_terms.false));
       known = c.look-node.ensures.known;
+      cost = rw e (omega (arith, c.look-node.ensures.step, c.joins_terms.ensures.cost));
       smaller = λ i d h. kid_smaller trees (tree trees c.args.id) op ks i d e h;
     }

@@ -1,6 +1,6 @@
-use Rattle.std.proofs.Common.{◌≡◌, ℕ, ◌<◌, drop, length, get_or}
+use Rattle.std.proofs.Common.{◌≡◌, ℕ, ◌<◌, drop, length, get_or, ◌+◌, ◌*◌, ◌≤◌}
 use Rattle.std.specs.Prelude.{All}
-use Rattle.dlk_tree.specs.Trees.{size}
+use Rattle.dlk_tree.specs.Trees.{size, size_all}
 use Rattle.dlk_store.specs.Stores.{IsId, tree, kid_trees}
 use Rattle.dlk_store.specs.declared.Id.{Id}
 use Rattle.dlk_derive.specs.Decided.{is_derivable, are_derivable}
@@ -16,5 +16,6 @@ invariant-loop-kid g l =
     record {
       rest : are_derivable (kid_trees trees (drop l.kid-index l.kid-items)) ≡ is_derivable (tree trees l.fn.id);
       known : All (IsId trees) l.kid-items;
+      cost : l.steps + 2 * size_all (kid_trees trees (drop l.kid-index l.kid-items)) ≤ l.fn.steps + 2 * size (tree trees l.fn.id);
       smaller : (i : ℕ) (d : Id) → i < length l.kid-items → size (tree trees (get_or l.kid-items i d)) < size (tree trees l.fn.id);
     }

@@ -1,4 +1,4 @@
-use Rattle.std.proofs.Common.{◌∙◌, sym}
+use Rattle.std.proofs.Common.{◌∙◌, sym, arith}
 use Rattle.dlk_store.specs.Stores.{tree, kid_trees}
 use Rattle.dlk_store.proofs.Kids.{kid_smaller}
 use Rattle.dlk_derive.proofs.Kids.{all_kids, formula_over}
@@ -15,5 +15,6 @@ loop-kid-init g t c =
       rest = sym (formula_over (tree trees c.args.id) op (kid_trees trees ks) e every
           (sym c.is_comparison.ensures ∙ c.if-is_comparison.false) (sym c.joins_formulas.ensures ∙ c.if-not-joins_formulas.false));
       known = c.look-node.ensures.known;
+      cost = rw e (omega (arith, c.look-node.ensures.step));
       smaller = λ i d h. kid_smaller trees (tree trees c.args.id) op ks i d e h;
     }

@@ -1,5 +1,5 @@
-use Rattle.std.proofs.Common.{◌≡◌, ◌++◌, map, drop}
-use Rattle.dlk_tree.specs.Trees.{size}
+use Rattle.std.proofs.Common.{◌≡◌, ◌++◌, ◌+◌, ◌≤◌, map, drop}
+use Rattle.dlk_tree.specs.Trees.{size, size_all}
 use Rattle.dlk_store.specs.Stores.{tree, kid_trees}
 use Rattle.dlk_derive.specs.Plans.{plan_all, plan_at}
 use Rattle.dlk_derive.specs.Ties.{atom_of}
@@ -14,4 +14,7 @@ abbrev pub invariant-loop-n : goal.invariant-loop-n
 invariant-loop-n g l =
     let trees = g.S.Store.trees l.store in
     let left = plan_all (drop l.n (seen l.ways)) (kid_trees trees (drop l.n l.node.kids.now)) in
-    l.uses.items ++ uses_at l.place l.path left ≡ l.fn.uses.items ++ map (atom_of l.place) (plan_at (tree trees l.fn.id) l.path)
+    record {
+      left : l.uses.items ++ uses_at l.place l.path left ≡ l.fn.uses.items ++ map (atom_of l.place) (plan_at (tree trees l.fn.id) l.path);
+      cost : l.steps + size_all (kid_trees trees (drop l.n l.node.kids.now)) ≤ l.fn.steps + size (tree trees l.fn.id);
+    }

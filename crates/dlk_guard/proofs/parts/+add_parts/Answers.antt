@@ -1,4 +1,4 @@
-use Rattle.std.proofs.Common.{◌∙◌, ◌++◌, sym, ap, map}
+use Rattle.std.proofs.Common.{◌∙◌, ◌++◌, sym, ap, map, arith}
 use Rattle.dlk_store.specs.Stores.{tree, kid_trees}
 use Rattle.dlk_store.proofs.Kids.{kid_smaller}
 use Rattle.dlk_guard.proofs.Joined.{joined}
@@ -14,5 +14,6 @@ loop-kid-init g t c =
           (sym (joined (tree trees c.args.id) c.look-node.result.op.now (kid_trees trees ks) e (sym c.is_and.ensures ∙ c.if-not-is_and.false)));
       added = c.requires.into;
       known = c.look-node.ensures.known;
+      cost = rw e (omega (arith, c.look-node.ensures.step));
       smaller = λ i d h. kid_smaller trees (tree trees c.args.id) c.look-node.result.op.now ks i d e h;
     }

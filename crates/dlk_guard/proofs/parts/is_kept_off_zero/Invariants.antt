@@ -1,4 +1,4 @@
-use Rattle.std.proofs.Common.{◌≡◌, map, drop}
+use Rattle.std.proofs.Common.{◌≡◌, ◌+◌, ◌*◌, ◌≤◌, map, drop}
 use Rattle.std.specs.List.{list_any}
 use Rattle.dlk_store.specs.Stores.{tree}
 use Rattle.dlk_guard.specs.Smooth.{keeps_off_zero}
@@ -8,5 +8,8 @@ use Rattle.dlk_guard.proofs.parts.is_kept_off_zero.Given as goal
 abbrev pub invariant-loop-part : goal.invariant-loop-part
 invariant-loop-part g l =
     let trees = map (tree (g.S.Store.trees l.store)) in
-    list_any (keeps_off_zero (tree (g.S.Store.trees l.store) l.d)) (trees l.domain) ≡ list_any (keeps_off_zero (tree (g.S.Store.trees l.store) l.d))
-    (trees (drop l.part-index l.domain))
+    let says = keeps_off_zero (tree (g.S.Store.trees l.store) l.d) in
+    record {
+      rest : list_any says (trees l.domain) ≡ list_any says (trees (drop l.part-index l.domain));
+      cost : l.steps ≤ l.fn.steps + 3 * l.part-index;
+    }

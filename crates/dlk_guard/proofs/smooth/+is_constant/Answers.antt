@@ -1,4 +1,4 @@
-use Rattle.std.proofs.Common.{◌&&◌, ◌∙◌, sym, ap}
+use Rattle.std.proofs.Common.{◌&&◌, ◌∙◌, sym, ap, arith}
 use Rattle.dlk_store.specs.Stores.{tree, kid_trees}
 use Rattle.dlk_store.proofs.Kids.{kid_smaller}
 use Rattle.dlk_guard.specs.Smooth.{is_constant, are_constant}
@@ -12,5 +12,6 @@ loop-kid-init g t c =
     record {
       rest = sym (ap is_constant e ∙ ap (λ b. b && are_constant (kid_trees trees ks)) (sym c.is_constant_op.ensures ∙ c.if-not-is_constant_op.false));
       known = c.look-node.ensures.known;
+      cost = rw e (omega (arith, c.look-node.ensures.step));
       smaller = λ i d h. kid_smaller trees (tree trees c.args.id) c.look-node.result.op.now ks i d e h;
     }

@@ -1,9 +1,10 @@
-use Rattle.std.proofs.Common.{◌≡◌, ℕ, ◌<◌, map, drop, length, get_or}
+use Rattle.std.proofs.Common.{◌≡◌, ℕ, ◌<◌, map, drop, length, get_or, ◌+◌, ◌*◌, ◌≤◌}
 use Rattle.std.specs.Prelude.{All}
-use Rattle.dlk_tree.specs.Trees.{size}
+use Rattle.dlk_tree.specs.Trees.{size, size_all, depth}
 use Rattle.dlk_store.specs.Stores.{IsId, tree, kid_trees}
 use Rattle.dlk_store.specs.declared.Id.{Id}
 use Rattle.dlk_guard.specs.Smooth.{is_smooth, are_smooth}
+use Rattle.dlk_guard.specs.Looks.{smooth_looks}
 use Rattle.dlk_guard.proofs.smooth.+is_smooth.Given as goal
 
 abbrev pub decreases-is_smooth : goal.decreases-is_smooth
@@ -17,5 +18,8 @@ invariant-loop-kid g l =
     record {
       rest : are_smooth domain (kid_trees trees (drop l.kid-index l.kid-items)) ≡ is_smooth domain (tree trees l.fn.id);
       known : All (IsId trees) l.kid-items;
+      cost : l.steps + size_all (kid_trees trees (drop l.kid-index l.kid-items)) * (depth (tree trees l.fn.id) + 3 * length l.domain)
+          ≤ l.fn.steps + smooth_looks (length l.domain) (tree trees l.fn.id);
+      shallower : (i : ℕ) (d : Id) → i < length l.kid-items → depth (tree trees (get_or l.kid-items i d)) < depth (tree trees l.fn.id);
       smaller : (i : ℕ) (d : Id) → i < length l.kid-items → size (tree trees (get_or l.kid-items i d)) < size (tree trees l.fn.id);
     }

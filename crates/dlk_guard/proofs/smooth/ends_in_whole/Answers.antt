@@ -12,14 +12,14 @@ not_whole : (op : Op) (kids : Forest) → ((n : Num) → op ≡ Op'.Number n →
 not_whole (Op'.Number n) kids h = absurd (h n refl)
 not_whole _ kids h = refl
 
-pub returns-in-Number : goal.returns-in-Number
-returns-in-Number g c =
+pub returns-in-Number-clause-value : goal.returns-in-Number-clause-value
+returns-in-Number-clause-value g c =
     let trees = g.S.Store.trees c.args.store.now in
     let is = last_kid trees c.args.ids.now c.in-Some.id.now (sym c.in-Some.ensures.value) ∙ c.look.ensures.node in
     sym (ap is_whole is ∙ ap (λ op. is_whole (node op (kid_trees trees c.look.result.kids.now))) c.in-Number.is)
 
-pub returns-in_default-op : goal.returns-in_default-op
-returns-in_default-op g c =
+pub returns-in_default-op-clause-value : goal.returns-in_default-op-clause-value
+returns-in_default-op-clause-value g c =
     let trees = g.S.Store.trees c.args.store.now in
     let is = last_kid trees c.args.ids.now c.in-Some.id.now (sym c.in-Some.ensures.value) ∙ c.look.ensures.node in
     sym (ap is_whole is ∙ not_whole c.look.result.op.now (kid_trees trees c.look.result.kids.now) c.in_default-op.not-Number)

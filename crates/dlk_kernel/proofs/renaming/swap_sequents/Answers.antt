@@ -18,10 +18,10 @@ loop-s-preserved g c =
     record {
       grows = g.met.S.Store.grows_trans c.args.store.now c.loop-s.store c.swap_sequent.new.store c.loop-s.invariant.grows c.swap_sequent.ensures.grows;
       known =
-          rw (c.in_ok-push.ensures.ok, c.in_ok-swapped-2.ensures)
+          rw (c.in_ok-made.ensures, c.in_ok-swapped-2.ensures)
           (one_more_known _ _ then c.loop-s.made _ c.loop-s.invariant.known c.in_ok-swapped.ensures.known);
       made =
-          rw (c.in_ok-push.ensures.ok, c.in_ok-swapped-2.ensures)
+          rw (c.in_ok-made.ensures, c.in_ok-swapped-2.ensures)
           (one_more_sequent _ _ _ first then c.args.x.now c.args.y.now c.args.all.now c.loop-s.made n c.s-item.result _ c.loop-s-test.true
           (c.requires n c.s-item.result c.loop-s-test.true) c.loop-s.invariant.known c.loop-s.invariant.made made);
     }
@@ -34,8 +34,8 @@ pub returns-in_err-swapped-2-clause-grows : goal.returns-in_err-swapped-2-clause
 returns-in_err-swapped-2-clause-grows g c =
     g.met.S.Store.grows_trans c.args.store.now c.loop-s.store c.swap_sequent.new.store c.loop-s.invariant.grows c.swap_sequent.ensures.grows
 
-pub returns-in_err-push-clause-grows : goal.returns-in_err-push-clause-grows
-returns-in_err-push-clause-grows g c =
+pub returns-in_err-made-clause-grows : goal.returns-in_err-made-clause-grows
+returns-in_err-made-clause-grows g c =
     g.met.S.Store.grows_trans c.args.store.now c.loop-s.store c.swap_sequent.new.store c.loop-s.invariant.grows c.swap_sequent.ensures.grows
 
 pub returns-clause-made : goal.returns-clause-made

@@ -36,13 +36,13 @@ loop-s-preserved g c =
     record {
       grows = g.met.S.Store.grows_trans c.args.store.now c.loop-s.store c.subst_sequent.new.store c.loop-s.invariant.grows c.subst_sequent.ensures.grows;
       known =
-          rw (c.in_ok-push.ensures.ok, c.in_ok-substituted-2.ensures)
+          rw (c.in_ok-made.ensures, c.in_ok-substituted-2.ensures)
           (one_more_known _ _ then c.loop-s.made _ c.loop-s.invariant.known c.in_ok-substituted.ensures.known);
       looks = λ u. sequent_looked first c.args.sigma.now.pairs c.requires.sigma.known _ _ _ n c.args.all.now c.s-item.result c.loop-s-test.true
           (c.requires.known n c.s-item.result c.loop-s-test.true) (c.loop-s.invariant.looks u)
           (rw (c.value.ensures, c.s-item.is) at (c.subst_sequent.ensures.looks u));
       made =
-          rw (c.in_ok-push.ensures.ok, c.in_ok-substituted-2.ensures)
+          rw (c.in_ok-made.ensures, c.in_ok-substituted-2.ensures)
           (one_more_sequent _ _ first c.args.sigma.now.pairs c.requires.sigma.known _ then c.args.all.now c.loop-s.made n c.s-item.result _
           c.loop-s-test.true (c.requires.known n c.s-item.result c.loop-s-test.true) c.loop-s.invariant.known c.loop-s.invariant.made made);
     }
@@ -55,8 +55,8 @@ returns-in_err-substituted-clause-looks g c = λ u.
     (c.requires.known n c.s-item.result c.loop-s-test.true) (c.loop-s.invariant.looks u)
     (rw (c.value.ensures, c.s-item.is) at (c.subst_sequent.ensures.looks u))
 
-pub returns-in_err-push-clause-looks : goal.returns-in_err-push-clause-looks
-returns-in_err-push-clause-looks g c = λ u.
+pub returns-in_err-made-clause-looks : goal.returns-in_err-made-clause-looks
+returns-in_err-made-clause-looks g c = λ u.
     let first = g.met.S.Store.grows_keeps c.args.store.now c.loop-s.store c.loop-s.invariant.grows in
     let n = c.loop-s.s-index in
     sequents_stopped first c.args.sigma.now.pairs c.requires.sigma.known _ _ _ n c.args.all.now c.s-item.result c.loop-s-test.true
@@ -71,8 +71,8 @@ returns-in_err-substituted-2-clause-looks g c = λ u.
     (c.requires.known n c.s-item.result c.loop-s-test.true) (c.loop-s.invariant.looks u)
     (rw (c.value.ensures, c.s-item.is) at (c.subst_sequent.ensures.looks u))
 
-pub returns-in_err-push-clause-grows : goal.returns-in_err-push-clause-grows
-returns-in_err-push-clause-grows g c =
+pub returns-in_err-made-clause-grows : goal.returns-in_err-made-clause-grows
+returns-in_err-made-clause-grows g c =
     g.met.S.Store.grows_trans c.args.store.now c.loop-s.store c.subst_sequent.new.store c.loop-s.invariant.grows c.subst_sequent.ensures.grows
 
 pub returns-in_err-substituted-clause-grows : goal.returns-in_err-substituted-clause-grows

@@ -9,5 +9,5 @@ returns-in-Err-Ill-clause-ill g c =
     let n = c.in-Err-Ill.field-0-0 in
     let w = c.in-Err-Ill.field-0-1 in
     let ill : FirstIll (pairs_at (g.S.Store.trees c.args.store.now) c.args.pairs.now) n w =
-    rw (c.in-Err-Ill.field-0-is, c.in_ok-copies.ensures) at c.in-Err-Ill.ensures.ill in
+    rw c.in-Err-Ill.field-0-is at c.in-Err-Ill.ensures.ill in
     (refl, λ well. well.none n w ill.ill)

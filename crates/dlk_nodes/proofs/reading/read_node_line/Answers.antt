@@ -1,9 +1,9 @@
-use Rattle.std.proofs.Common.{◌≡◌, ◌≢◌, ℕ, List, ◌++◌, Err, sym, ◌∙◌, ap}
+use Rattle.std.proofs.Common.{◌≡◌, ◌≢◌, Err, refl, sym, ◌∙◌, ap}
 use Rattle.std.specs.Prelude.{codes}
 use Rattle.std.proofs.lemmas.Bool.{both_ways}
 use Rattle.std.proofs.lemmas.Bool.Decides.{Decides-eqb}
 use Rattle.std.proofs.lemmas.Result.{err_from_is_err_and}
-use Rattle.std.proofs.lemmas.Slice.Eq.{slice_eq-Decides, starts_is}
+use Rattle.std.proofs.lemmas.Slice.Eq.{slice_eq-Decides}
 use Rattle.dlk_nodes.specs.declared.fault.NodeFault.TheVariants.{Memory}
 use Rattle.dlk_nodes.specs.Lines.{of_node, of_step, done}
 use Rattle.dlk_nodes.specs.Tables.{nodes_at}
@@ -20,24 +20,18 @@ pub returns-in_err-number-clause-fault : goal.returns-in_err-number-clause-fault
 returns-in_err-number-clause-fault g c =
     let nodes = nodes_at (g.S.Store.trees c.args.store.now) c.args.table.now in
     let e = err_from_is_err_and c.from_residual.result c.from_residual.ensures.1 in
-    let begins = (starts_is Decides-eqb c.args.line.now c.as_slice-2.result.now c.starts_with.result c.starts_with.ensures.value).0 c.if-starts_with.true in
-    let head = rw c.as_slice-2.ensures at begins in
-    rw (e.1, e.2) (fault_of_whole (only_a_node nodes c.args.line.now _ head) _ c.in_err-number.ensures.fault)
+    rw (e.1, e.2, c.in-Some.ensures.found) (fault_of_whole (only_a_node nodes _ c.in-Some.text.now refl) _ c.in_err-number.ensures.fault)
 
 pub returns-in_err-number-2-clause-fault : goal.returns-in_err-number-2-clause-fault
 returns-in_err-number-2-clause-fault g c =
     let nodes = nodes_at (g.S.Store.trees c.args.store.now) c.args.table.now in
     let e = err_from_is_err_and c.from_residual-in_err-number-2.result c.from_residual-in_err-number-2.ensures.1 in
-    let other : (behind : List ℕ) → c.args.line.now ≢ codes "node " ++ behind = λ behind same.
-    both_ways c.starts_with.result c.if-starts_with.false
-    ((starts_is Decides-eqb c.args.line.now c.as_slice-2.result.now c.starts_with.result c.starts_with.ensures.value).1 behind
-    (same ∙ ap (λ l. l ++ behind) (sym c.as_slice-2.ensures))) in
     let unlike : c.args.line.now ≢ codes "done" = λ same.
     both_ways c.eq.result c.if-eq.false ((slice_eq-Decides Decides-eqb _ _ _ c.eq.ensures).1 (same ∙ sym c.as_slice.ensures)) in
-    rw (e.1, e.2) (node_of_line (only_a_step nodes c.args.line.now other unlike) _ c.in_err-number-2.ensures.fault)
+    rw (e.1, e.2) (node_of_line (only_a_step nodes c.args.line.now c.in_default.ensures.none unlike) _ c.in_err-number-2.ensures.fault)
 
-pub returns-then-starts_with-clause-found : goal.returns-then-starts_with-clause-found
-returns-then-starts_with-clause-found g c = of_node c.in_ok-number.ensures.found
+pub returns-in-Some-clause-found : goal.returns-in-Some-clause-found
+returns-in-Some-clause-found g c = rw c.in-Some.ensures.found (of_node c.in_ok-number.ensures.found)
 
 pub returns-clause-found : goal.returns-clause-found
 returns-clause-found g c = of_step c.in_ok-number-2.ensures.found
@@ -45,10 +39,8 @@ returns-clause-found g c = of_step c.in_ok-number-2.ensures.found
 pub returns-in_err-number-clause-memory : goal.returns-in_err-number-clause-memory
 returns-in_err-number-clause-memory g c =
     let e = err_from_is_err_and c.from_residual.result c.from_residual.ensures.1 in
-    rw (e.1, e.2) (λ is text same. let why : c.in_err-number.field-0.0 ≡ Memory = cc is in c.in_err-number.ensures.memory (ap Err why))
+    rw (e.1, e.2, c.in-Some.ensures.found)
+    (λ is text same. let why : c.in_err-number.field-0.0 ≡ Memory = cc is in c.in_err-number.ensures.memory (ap Err why))
 
 pub returns-in_err-number-2-clause-memory : goal.returns-in_err-number-2-clause-memory
-returns-in_err-number-2-clause-memory g c = λ is text same.
-    absurd (both_ways c.starts_with.result c.if-starts_with.false
-    ((starts_is Decides-eqb c.args.line.now c.as_slice-2.result.now c.starts_with.result c.starts_with.ensures.value).1 text
-    (same ∙ ap (λ l. l ++ text) (sym c.as_slice-2.ensures))))
+returns-in_err-number-2-clause-memory g c = λ is text same. absurd (c.in_default.ensures.none text same)

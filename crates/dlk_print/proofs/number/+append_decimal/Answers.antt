@@ -1,10 +1,7 @@
 use Rattle.std.proofs.Common.{sym, arith}
 use Rattle.dlk_print.proofs.Left.{first_failed, then_last, same_text}
-use Rattle.dlk_print.proofs.Digits.{decimal-one, decimal-more}
+use Rattle.dlk_print.proofs.Digits.{decimal-more}
 use Rattle.dlk_print.proofs.number.+append_decimal.Goals as goal
-
-pub returns-then-n-lt10 : goal.returns-then-n-lt10
-returns-then-n-lt10 t c = same_text (sym (decimal-one c.args.n (omega arith))) c.append_digit.ensures
 
 pub returns-in_err-append_decimal : goal.returns-in_err-append_decimal
 returns-in_err-append_decimal t c =
@@ -13,4 +10,4 @@ returns-in_err-append_decimal t c =
 
 pub returns : goal.returns
 returns t c =
-    same_text (sym (decimal-more c.args.n (omega arith) (omega arith))) (then_last _ c.in_ok-append_decimal.ensures.ok c.append_digit-2.ensures)
+    same_text (sym (decimal-more c.args.n (omega arith) (omega arith))) (then_last _ c.in_ok-append_decimal.ensures.ok c.append_digit.ensures)

@@ -144,3 +144,30 @@ returns-clause-left g c =
     let none = no_lines_left c.loop-left.left.now c.is_empty.result c.is_empty.ensures c.loop-left-test.false in
     let before_it : c.loop-left.place + 1 - 1 ≡ c.loop-left.place = omega arith in
     rw before_it (short_left (rw none at c.loop-left.invariant.so_far))
+
+pub returns-in_err-take_line-clause-grows : goal.returns-in_err-take_line-clause-grows
+returns-in_err-take_line-clause-grows g c =
+    g.met.S.Store.grows_trans c.args.kernel.now.store c.loop-left.kernel.store c.take_line.new.kernel.store c.loop-left.invariant.grows c.take_line.ensures.grows
+
+pub returns-in_err-show_last-in-Step-clause-grows : goal.returns-in_err-show_last-in-Step-clause-grows
+returns-in_err-show_last-in-Step-clause-grows g c =
+    g.met.S.Store.grows_trans c.args.kernel.now.store c.loop-left.kernel.store c.take_line.new.kernel.store c.loop-left.invariant.grows c.take_line.ensures.grows
+
+pub returns-in_err-keep_step-in-Step-clause-grows : goal.returns-in_err-keep_step-in-Step-clause-grows
+returns-in_err-keep_step-in-Step-clause-grows g c =
+    g.met.S.Store.grows_trans c.args.kernel.now.store c.loop-left.kernel.store c.take_line.new.kernel.store c.loop-left.invariant.grows c.take_line.ensures.grows
+
+pub returns-in_err-end-in-Done-clause-grows : goal.returns-in_err-end-in-Done-clause-grows
+returns-in_err-end-in-Done-clause-grows g c =
+    g.met.S.Store.grows_trans c.args.kernel.now.store c.loop-left.kernel.store c.take_line.new.kernel.store c.loop-left.invariant.grows c.take_line.ensures.grows
+
+pub returns-in-Done-clause-grows : goal.returns-in-Done-clause-grows
+returns-in-Done-clause-grows g c =
+    g.met.S.Store.grows_trans c.args.kernel.now.store c.loop-left.kernel.store c.take_line.new.kernel.store c.loop-left.invariant.grows c.take_line.ensures.grows
+
+pub returns-in-Done-clause-known : goal.returns-in-Done-clause-known
+returns-in-Done-clause-known g c =
+    let old = g.S.Store.trees c.loop-left.kernel.store in
+    let new = g.S.Store.trees c.take_line.new.kernel.store in
+    let keeps = g.met.S.Store.grows_keeps c.loop-left.kernel.store c.take_line.new.kernel.store c.take_line.ensures.grows in
+    All-weaker (HasKnownIds old) (HasKnownIds new) (λ x. c.step_stays.ensures.known old new x keeps) c.loop-left.kept.items c.loop-left.invariant.known

@@ -21,3 +21,11 @@ returns-in-Err-clause-fault g c =
     let table = c.args.table.now in
     rw c.of_node_text.ensures (node_text_wrong (IsLine (nodes_at (g.S.Store.trees c.args.kernel.now.store) table)) c.args.line.now (length table) c.args.place
     (facts g.S.Store.trees c.args.kernel.now) c.in-Err.fault c.in-Err.ensures.fault)
+
+pub returns-in_err-take_step-in-Ok-Step-clause-grows : goal.returns-in_err-take_step-in-Ok-Step-clause-grows
+returns-in_err-take_step-in-Ok-Step-clause-grows g c =
+    g.met.S.Store.grows_trans c.args.kernel.now.store c.read_node_line.new.store.store c.take_step.new.kernel.store c.read_node_line.ensures.grows.0 c.take_step.ensures.grows
+
+pub returns-in_ok-take_step-in-Ok-Step-clause-grows : goal.returns-in_ok-take_step-in-Ok-Step-clause-grows
+returns-in_ok-take_step-in-Ok-Step-clause-grows g c =
+    g.met.S.Store.grows_trans c.args.kernel.now.store c.read_node_line.new.store.store c.take_step.new.kernel.store c.read_node_line.ensures.grows.0 c.take_step.ensures.grows

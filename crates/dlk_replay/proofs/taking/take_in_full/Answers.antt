@@ -21,3 +21,11 @@ returns-in-Err-clause-fault g c =
     let text = c.args.line.now in
     let wrong = fault_of_whole (none_in_full text) c.in-Err.fault c.in-Err.ensures.fault in
     rw c.of_text.ensures (text_wrong IsLineInFull text 0 c.args.place (facts g.S.Store.trees c.args.kernel.now) c.in-Err.fault wrong)
+
+pub returns-in_err-take_step-in-Ok-Step-clause-grows : goal.returns-in_err-take_step-in-Ok-Step-clause-grows
+returns-in_err-take_step-in-Ok-Step-clause-grows g c =
+    g.met.S.Store.grows_trans c.args.kernel.now.store c.read_line.new.store.store c.take_step.new.kernel.store c.read_line.ensures.grows.0 c.take_step.ensures.grows
+
+pub returns-in_ok-take_step-in-Ok-Step-clause-grows : goal.returns-in_ok-take_step-in-Ok-Step-clause-grows
+returns-in_ok-take_step-in-Ok-Step-clause-grows g c =
+    g.met.S.Store.grows_trans c.args.kernel.now.store c.read_line.new.store.store c.take_step.new.kernel.store c.read_line.ensures.grows.0 c.take_step.ensures.grows

@@ -14,19 +14,19 @@ pub returns-in_err-limit_sequents-clause-fault : goal.returns-in_err-limit_seque
 returns-in_err-limit_sequents-clause-fault g c =
     let r = err_from_is_err_and c.from_residual-in_err-limit_sequents.result c.from_residual-in_err-limit_sequents.ensures.1 in
     rw (r.1, r.2) (start_past _ c.args.s.now (c.is_sequent.ensures.0 c.if-not-is_sequent.false) c.as_slice.result.now
-    (rw (c.as_slice.ensures, c.from_vec-goals.ensures, c.in_ok-vec.ensures.items, c.in_ok-goal.ensures)
+    (rw (c.as_slice.ensures, c.one-goals.ensures, c.in_ok-goal.ensures)
     (rw (c.in_ok-conclusion.ensures, c.in_ok-copy.ensures) refl)) _ c.in_err-limit_sequents.ensures.past)
 
 pub returns-clause-given : goal.returns-clause-given
 returns-clause-given g c =
     started_given _ c.args.s.now _ (c.is_sequent.ensures.0 c.if-not-is_sequent.false)
     (rw (c.in_ok-conclusion.ensures, c.in_ok-copy.ensures, c.in_ok-leaves.ensures, c.new-2.ensures)
-    (rw (c.from_vec-goals.ensures, c.in_ok-vec.ensures.items, c.in_ok-goal.ensures, c.in_ok-conclusion.ensures, c.in_ok-copy.ensures) refl))
+    (rw (c.one-goals.ensures, c.in_ok-goal.ensures, c.in_ok-conclusion.ensures, c.in_ok-copy.ensures) refl))
 
 pub returns-clause-within : goal.returns-clause-within
 returns-clause-within g c =
     start_within _ c.args.s.now (c.is_sequent.ensures.0 c.if-not-is_sequent.false) c.as_slice.result.now
-    (rw (c.as_slice.ensures, c.from_vec-goals.ensures, c.in_ok-vec.ensures.items, c.in_ok-goal.ensures)
+    (rw (c.as_slice.ensures, c.one-goals.ensures, c.in_ok-goal.ensures)
     (rw (c.in_ok-conclusion.ensures, c.in_ok-copy.ensures) refl)) c.in_ok-limit_sequents.ensures.within _
     (rw (c.in_ok-conclusion.ensures, c.in_ok-copy.ensures, c.in_ok-leaves.ensures, c.new-2.ensures)
-    (rw (c.from_vec-goals.ensures, c.in_ok-vec.ensures.items, c.in_ok-goal.ensures, c.in_ok-conclusion.ensures, c.in_ok-copy.ensures) refl))
+    (rw (c.one-goals.ensures, c.in_ok-goal.ensures, c.in_ok-conclusion.ensures, c.in_ok-copy.ensures) refl))

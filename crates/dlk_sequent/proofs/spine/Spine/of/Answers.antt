@@ -7,7 +7,7 @@ use Rattle.dlk_sequent.proofs.spine.Spine.of.Goals as goal
 pub returns-in_default : goal.returns-in_default
 returns-in_default g c =
     walked_out (g.S.Store.trees c.args.store.now) c.args.id c.args.path.now c.loop-kid.at c.loop-kid.kid-index 0 c.loop-kid.invariant.walked
-    c.loop-kid-test.true c.in_default.ensures
+    c.loop-kid-test.true c.in_default.ensures.kid
 
 pub loop-kid-preserved : goal.loop-kid-preserved
 loop-kid-preserved g c =
@@ -19,8 +19,8 @@ loop-kid-preserved g c =
     let next = c.in-Some.next in
     let more : c.push.new.self.items ≡ turns ++ turn ∷ [] = c.in_ok-push.ensures.items in
     record {
-      walked = walked_on trees c.args.id path c.loop-kid.at i 0 c.loop-kid.invariant.walked c.loop-kid-test.true next c.in-Some.ensures;
+      walked = walked_on trees c.args.id path c.loop-kid.at i 0 c.loop-kid.invariant.walked c.loop-kid-test.true next c.in-Some.ensures.kid;
       starts = ap (λ ts. start ts next) more ∙ start_stays turns turn next ∙ c.loop-kid.invariant.starts;
       goes = kids_more turns c.push.new.self.items turn path i 0 more c.loop-kid.invariant.goes c.loop-kid-test.true refl;
-      are = subst (λ ts. AreTurns trees ts next) (sym more) (one_turn trees turns turn next c.loop-kid.invariant.are c.in-Some.ensures);
+      are = subst (λ ts. AreTurns trees ts next) (sym more) (one_turn trees turns turn next c.loop-kid.invariant.are c.in-Some.ensures.kid);
     }

@@ -1,8 +1,15 @@
-use Rattle.dlk_shared.proofs.SetLemmas.{either_none, none_either}
+use Rattle.std.proofs.Common.{ap}
+use Rattle.dlk_tree.specs.Statics.{either}
+use Rattle.dlk_shared.specs.SetTables.{SetTable}
+use Rattle.dlk_shared.proofs.SetLemmas.{rows_keep, picked_makes}
 use Rattle.dlk_shared.proofs.sets.SetTable.either.Goals as goal
 
-pub returns-then-is_none-clause-makes : goal.returns-then-is_none-clause-makes
-returns-then-is_none-clause-makes c = either_none (c.is_none.ensures.none c.if-is_none.true)
+pub returns-clause-makes : goal.returns-clause-makes
+returns-clause-makes c =
+    picked_makes c.union.result either c.args.self.now c.args.a c.args.b c.self.inside.vars c.self.inside.rows c.union.new.self
+    (ap (λ (t : SetTable). t.vars) c.self.view_is) (ap (λ (t : SetTable). t.sets) c.self.view_is) c.union.ensures.known c.union.ensures.vars
 
-pub returns-then-is_none-2-clause-makes : goal.returns-then-is_none-2-clause-makes
-returns-then-is_none-2-clause-makes c = none_either (c.is_none-2.ensures.none c.if-is_none-2.true)
+pub returns-clause-keeps : goal.returns-clause-keeps
+returns-clause-keeps c =
+    rows_keep c.args.self.now c.self.inside.vars c.self.inside.rows c.union.new.self
+    (ap (λ (t : SetTable). t.vars) c.self.view_is) (ap (λ (t : SetTable). t.sets) c.self.view_is) c.union.ensures.keeps

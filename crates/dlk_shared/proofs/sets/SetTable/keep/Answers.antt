@@ -1,27 +1,9 @@
-use Rattle.std.proofs.Common.{◌≡◌, ◌<◌, length, sym, ap, ◌∙◌, arith, false, []}
-use Rattle.std.proofs.lemmas.Option.{slice_get_within, get_or_from_slice_get}
-use Rattle.dlk_vars.specs.Rows.{row_eq}
-use Rattle.dlk_shared.specs.SetTables.{SetTable, row_at}
-use Rattle.dlk_shared.proofs.SetLemmas.{mapped, inserted_keeps, row_decides}
+use Rattle.std.proofs.Common.{ap}
+use Rattle.dlk_shared.specs.SetTables.{SetTable}
+use Rattle.dlk_shared.proofs.SetLemmas.{rows_keep}
 use Rattle.dlk_shared.proofs.sets.SetTable.keep.Goals as goal
-
-pub returns-clause-known : goal.returns-clause-known
-returns-clause-known c =
-    let stored = c.in_ok-n.ensures.stored in
-    let sets = c.insert_full.new.self.keys in
-    mapped (λ m. m ≡ c.in_ok-n.n) (λ m. m < length sets) c.narrow.result
-    (λ m e. omega (arith, e, slice_get_within sets c.in_ok-n.n stored.0 stored.1)) c.narrow.ensures.same
-
-pub returns-clause-row : goal.returns-clause-row
-returns-clause-row c =
-    let stored = c.in_ok-n.ensures.stored in
-    let sets = c.insert_full.new.self.keys in
-    let row : row_at sets c.in_ok-n.n ≡ c.args.set =
-    get_or_from_slice_get sets c.in_ok-n.n stored.0 (record { words = []; others = false }) stored.1
-    ∙ sym ((row_decides c.args.set stored.0).0 stored.2) in
-    mapped (λ m. m ≡ c.in_ok-n.n) (λ m. row_at sets m ≡ c.args.set) c.narrow.result (λ m e. ap (row_at sets) e ∙ row) c.narrow.ensures.same
 
 pub returns-clause-keeps : goal.returns-clause-keeps
 returns-clause-keeps c =
-    inserted_keeps row_eq c.args.self.now c.self.inside.vars c.self.inside.sets.keys c.insert_full.new.self.keys c.args.set
-    (ap (λ (t : SetTable). t.vars) c.self.view_is) (ap (λ (t : SetTable). t.sets) c.self.view_is) c.in_ok-n.ensures.keys
+    rows_keep c.args.self.now c.self.inside.vars c.self.inside.rows c.keep.new.self
+    (ap (λ (t : SetTable). t.vars) c.self.view_is) (ap (λ (t : SetTable). t.sets) c.self.view_is) c.keep.ensures.keeps

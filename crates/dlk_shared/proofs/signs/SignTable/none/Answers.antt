@@ -1,13 +1,12 @@
-use Rattle.std.proofs.Common.{false}
-use Rattle.dlk_tree.specs.declared.op.Sym.{Sym}
-use Rattle.dlk_vars.specs.Rows.{has_number}
-use Rattle.dlk_shared.proofs.SignLemmas.{row_signs, stands_none}
+use Rattle.std.proofs.Common.{ap}
+use Rattle.dlk_shared.specs.Signs.{SignTable}
+use Rattle.dlk_shared.proofs.SignLemmas.{rows_keep_signs, empty_signs}
 use Rattle.dlk_shared.proofs.signs.SignTable.none.Goals as goal
 
 pub returns-clause-signs : goal.returns-clause-signs
-returns-clause-signs c =
-    let old = c.args.self.now in
-    row_signs c.keep.result c.keep.new.self old.syms c.empty-set.result (λ (t : Sym). false)
-    c.keep.ensures.known c.keep.ensures.row c.keep.ensures.syms
-    (λ m l. c.empty-set.ensures.numbers m)
-    (λ s. stands_none (has_number c.empty-set.result) 0 old.syms s (λ m l. c.empty-set.ensures.numbers m))
+returns-clause-signs c = empty_signs c.none.result c.self.inside.syms.keys c.none.new.self c.none.ensures.empty
+
+pub returns-clause-keeps : goal.returns-clause-keeps
+returns-clause-keeps c =
+    rows_keep_signs c.args.self.now c.self.inside.syms.keys c.self.inside.rows c.none.new.self
+    (ap (λ (t : SignTable). t.syms) c.self.view_is) (ap (λ (t : SignTable). t.signs) c.self.view_is) c.none.ensures.keeps
