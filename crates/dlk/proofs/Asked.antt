@@ -71,16 +71,6 @@ module _ (tells : Type 0) (names : List (String Global)) (roles : List Role) (na
   asked_further lt less name_is role_is so_far same (inl never) = (i, asked_no_more so_far never)
   asked_further lt less name_is role_is so_far same (inr started) = (i + 1, asked_next lt less name_is role_is so_far same started)
 
--- nothing was asked for yet
-pub asked_none : (tells : Type 0) (names : List Word) (limits : List ℕ) (old new : Outside) → new.asked ≡ old.asked → (tells → new.left ≡ old.left) →
-    AsksFor tells names limits 0 old new
-asked_none tells names limits old new asked left = record {
-  within = omega arith;
-  asked = asked ∙ sym (append-nil old.asked);
-  none = λ t z. left t;
-  last = λ t name limit a b. let e : None ≡ Some name = a in absurd cc;
-}
-
 -- what prints and writes asks for nothing, and takes nothing
 pub asked_before : (tells : Type 0) (names : List Word) (limits : List ℕ) (count : ℕ) (old mid new : Outside) → AsksFor tells names limits count old mid →
     new.asked ≡ mid.asked → (tells → new.left ≡ mid.left) → AsksFor tells names limits count old new

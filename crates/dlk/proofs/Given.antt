@@ -24,15 +24,6 @@ part_through None old mid new a b = same_through old mid new a b
 part_through (Some output) old mid new a (inl b) = inl (same_through old mid new a b)
 part_through (Some output) old mid new a (inr b) = inr (b.0, written_through output.name (take b.0 output.bytes) old mid new a b.1)
 
--- where there is no output, nothing is left to be written
-pub none_after : (output : Option Output) (old new : Files) → IsNone output → SameFiles old new → SameFiles (after output old) new
-none_after None old new none same = same
-none_after (Some output) old new none same = absurd cc
-
-pub none_in_part : (output : Option Output) (old new : Files) → IsNone output → SameFiles old new → WrittenInPart output old new
-none_in_part None old new none same = same
-none_in_part (Some output) old new none same = absurd cc
-
 pub no_name : (name : Option Word) (written : Option (List ℕ)) → IsNone name → IsNone (output_with name written)
 no_name None written none = none
 no_name (Some name) written none = absurd cc

@@ -130,13 +130,3 @@ answer_judges words old new reply answers printed layout model term said f runs 
     let same : reply.printed ≡ said = append_cancel_left old.printed reply.printed said (sym printed ∙ says) in
     subst (λ (x : List ℕ). Judges layout term f (code_of reply.status) x) same
     (check_judges layout model term f reads reply (answer_checks layout model term m t words old reply answers runs))
-
--- where there is no answer, or it is broken off, nothing is judged
-pub fault_judges : (words : List Word) (status : ℕ) (old new : Outside) → 3 ≤ status → JudgesTruly words status old new
-fault_judges words status old new high layout model term said f runs m t reads says = record {
-  accepted = λ less. absurd (omega (arith, less, high));
-  refused = λ two. absurd (omega (arith, two, high));
-  first_wrong = λ n why v few. absurd (omega (arith, few, high));
-  all_steps = λ rows p a e few. absurd (omega (arith, few, high));
-  another = λ rows p a ne few. absurd (omega (arith, few, high));
-}

@@ -49,9 +49,6 @@ module _ (words : List Word) (old mid new : Outside) (reply : Reply) (name : Opt
     file_kept = elim kept [ inl whole ↦ inl (whole_files whole) | inr failed ↦ inr (failed_through tells old mid new reads failed) ];
   }
 
-pub grows_from : (old mid new bytes : List ℕ) → mid ≡ old → GrowsByFront bytes mid new → GrowsByFront bytes old new
-grows_from old mid new bytes same front = (front.0, front.1 ∙ ap (λ l. l ++ take front.0 bytes) same)
-
 no_write_through : (tells : Type 0) (old mid new : Outside) → OnlyReads tells old mid → StartsNoWrite tells mid new → StartsNoWrite tells old new
 no_write_through tells old mid new reads none = record {
   writing = none.writing ∙ reads.writing;
@@ -79,14 +76,6 @@ keeps_given tells words status old mid new reply name named reads none refusal f
   silent = λ either. elim either [ inl e ↦ absurd (four e) | inr e ↦ absurd (six e) ];
 }
 
--- nothing was given
-pub keeps_silent : (tells : Type 0) (words : List Word) (status : ℕ) (old new : Outside) → OnlyReads tells old new → Keeps tells words status old new
-keeps_silent tells words status old new reads = record {
-  no_output = λ no. read_alone tells old new reads;
-  refused = λ two. read_alone tells old new reads;
-  silent = λ either. reads;
-}
-
 pub asks_given : (tells : Type 0) (words : List Word) (status : ℕ) (old mid new : Outside) →
     ((count : ℕ) × AsksFor tells (inputs words) (limits words) count old mid) →
     mid.asked ≡ old.asked ++ inputs words → OnlyWrites tells mid new → Asks tells words status old new
@@ -94,13 +83,4 @@ asks_given tells words status old mid new so_far all writes = record {
   count = so_far.0;
   inputs_only = asked_before tells (inputs words) (limits words) so_far.0 old mid new so_far.1 writes.asked writes.left;
   all = λ form few. writes.asked ∙ all;
-}
-
-pub asks_silent : (tells : Type 0) (words : List Word) (status : ℕ) (old new : Outside) →
-    ((count : ℕ) × AsksFor tells (inputs words) (limits words) count old new) → 3 ≤ status →
-    Asks tells words status old new
-asks_silent tells words status old new so_far high = record {
-  count = so_far.0;
-  inputs_only = so_far.1;
-  all = λ form few. absurd (omega (arith, high, few));
 }

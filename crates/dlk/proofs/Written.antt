@@ -46,7 +46,3 @@ pub whole_proves : EachIsChecked → (words : List Word) (status : ℕ) (old new
     ProvesTruly words status old new
 whole_proves checked words status old new reply gives model term said form there less says =
     whole_accepted Prove (Strategy ∷ []) model refl (proved_writes checked model) words status old new reply gives term said form there less says
-
--- with another status there is nothing to be accepted
-pub fault_proves : (words : List Word) (status : ℕ) (old new : Outside) → 2 < status → ProvesTruly words status old new
-fault_proves words status old new high model term said form there less says = absurd (omega (arith, less, high))

@@ -33,11 +33,6 @@ pub term_over : (t : Tree) (op : Op) (kids : Forest) → t ≡ node op kids → 
     is_derivable t ≡ are_derivable kids
 term_over t op kids e n j = ap is_derivable e ∙ (λ i. j i && (n i && are_derivable kids))
 
-pub comparison_over : (t : Tree) (op : Op) (kids : Forest) → t ≡ node op kids → has_all_kids op kids ≡ true → is_comparison op ≡ true →
-    is_derivable_formula t ≡ are_derivable kids
-comparison_over t op kids e n c =
-    ap is_derivable_formula e ∙ (λ i. cond (c i) (n i && are_derivable kids) (joins_formulas op && (has_all_kids op kids && are_derivable_formulas kids)))
-
 pub formula_over : (t : Tree) (op : Op) (kids : Forest) {b : Bool} → t ≡ node op kids → has_all_kids op kids ≡ true → is_comparison op ≡ false →
     joins_formulas op ≡ b → is_derivable_formula t ≡ (b && are_derivable_formulas kids)
 formula_over t op kids e n c j =

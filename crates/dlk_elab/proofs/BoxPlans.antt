@@ -61,18 +61,6 @@ generalizes_planned trees target boxed s h k = record {
       (All-cons K second (third ∷ last ∷ []) (known_two trees p q h k) (All-cons K third (last ∷ []) tt (All-cons K last [] tt (All-nil K))));
 }
 
-pub generalizing_planned : (trees : List Tree) (target : Target) (boxed : Boxed) (s : Sequent) (steps : List Step) (name : List ℕ) (pairs : List Pair) →
-    name ≡ codes "G" → pairs ≡ (record { sym = program_a; by = boxed.program }) ∷ (record { sym = any_p; by = boxed.formula }) ∷ [] →
-    steps ≡ step.AxRule name ∷ step.Subst (target.rows + 1) pairs ∷ step.Apply target.fact target.goal (rule.CoHideR boxed.place) ∷
-    step.Merge (target.rows + 3) target.goal (target.rows + 2) ∷ [] →
-    IsId trees boxed.program → IsId trees boxed.formula →
-    ArePlanned trees steps (generalizing target.rows (goal_at target s) boxed.place (tree trees boxed.program) (tree trees boxed.formula))
-generalizing_planned trees target boxed s steps name pairs name_is pairs_are steps_are h k =
-    let e : steps ≡ generalizes target boxed = steps_are ∙ (λ i. step.AxRule (name_is i) ∷ step.Subst (target.rows + 1) (pairs_are i) ∷
-    step.Apply target.fact target.goal (rule.CoHideR boxed.place) ∷ step.Merge (target.rows + 3) target.goal (target.rows + 2) ∷ []) in
-    subst (λ xs. ArePlanned trees xs (generalizing target.rows (goal_at target s) boxed.place (tree trees boxed.program) (tree trees boxed.formula))) (sym e)
-    (generalizes_planned trees target boxed s h k)
-
 abbrev distributes : Boxed → Cut → List Pair
 distributes boxed cut =
     (record { sym = program_a; by = boxed.program }) ∷ (record { sym = any_p; by = cut.formula }) ∷ (record { sym = any_q; by = boxed.formula }) ∷ []
@@ -202,9 +190,6 @@ box_sorts b f made = let e = made.0.kids_fit in record { program = cc; formula =
 
 pub box_fits : (b f h : Tree) → WellMade (box b f) → sort h ≡ Formula → Fits op.Box (sort b ∷ sort h ∷ [])
 box_fits b f h made e = let p = (box_sorts b f made).program in record { kids_fit = λ i. p i ∷ e i ∷ []; parts_fit = refl }
-
-pub imply_fits : (b f h : Tree) → WellMade (box b f) → sort h ≡ Formula → Fits op.Imply (sort h ∷ sort f ∷ [])
-imply_fits b f h made e = let p = (box_sorts b f made).formula in record { kids_fit = λ i. e i ∷ p i ∷ []; parts_fit = refl }
 
 pub id_later : (old new : List Tree) (id : Id) → Keeps old new → IsId old id → IsId new id
 id_later old new id keeps known = omega (arith, keeps.known)

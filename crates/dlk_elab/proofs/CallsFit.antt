@@ -185,8 +185,3 @@ pub use_known : (trees : List Tree) (d : CodeDirection) (args all : List Arg) (u
     GivenIsKnown trees (option_copied u.given)
 use_known trees d args all u same h known =
     given_known trees all h.named h.at (option_copied u.given) h.given (subst (All (ArgumentIsKnown trees)) (sym same) known)
-
-pub cut_known : (trees : List Tree) (args all : List Arg) (h : Id) (a : Arg) → all ≡ args → all ≡ arg.Formula h ∷ a ∷ [] → All (ArgumentIsKnown trees) args →
-    IsId trees h
-cut_known trees args all h a same e known =
-    All-head (ArgumentIsKnown trees) (arg.Formula h) (a ∷ []) (subst (All (ArgumentIsKnown trees)) (sym same ∙ e) known)

@@ -68,13 +68,6 @@ pub in_system : (r : PairsSoFar) (l : List PairPhrase) (s : Sym) (m : Mode) (x :
     → ShowsPair r l (pair.InSystem s m) (system_state s x)
 in_system r l s m x e p h = rw (system_goes_on s x e) (record { inner = x; state = refl; pairs = p; shows = h })
 
--- the same of a value that is known
-pub agrees_some : {X V Y : Type 0} (s : X → Y → Type 0) (r : X → V → Type 0) (o : Result X StepFault) (y : Y) (v : V) → ((x : X) → s x y → r x v)
-    → Agrees s o (Some y) → Agrees r o (Some v)
-agrees_some s r (Ok x) y v f a = f x a
-agrees_some s r (Err Memory) y v f a = tt
-agrees_some s r (Err Syntax) y v f a = absurd a
-
 pub agrees_same : {X Y V : Type 0} (s : X → Y → Type 0) (r : X → V → Type 0) (o : Result X StepFault) (u : Option Y) (g : Y → V)
     → ((x : X) (y : Y) → s x y → r x (g y)) → Agrees s o u → Agrees r o (u >>= λ y. Some (g y))
 agrees_same s r (Ok x) (Some y) g f a = f x y a

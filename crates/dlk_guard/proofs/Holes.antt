@@ -24,15 +24,3 @@ mutual
   none_in_kids no_kids h = refl
   none_in_kids (kid t rest) h =
       let parts = or_parts (has_hole t) (any_has is_hole rest) h in none_in_either _ _ (none_without_hole t parts.0) (none_in_kids rest parts.1)
-
--- below a ( )' there is one where one stands in it
-pub differential_hole : (op : Op) (kids : Forest) → is_differential op ≡ true → has_hole (node op kids) ≡ true → has_hole_in_differential (node op kids) ≡ true
-differential_hole op kids d h = chosen_true (is_differential op) d (in_kids op d h)
-  where
-    chosen_true : (b : Bool) → b ≡ true → any_has is_hole kids ≡ true → cond b (any_has is_hole kids) (any_hole_in_differential kids) ≡ true
-    chosen_true true e k = k
-    chosen_true false e k = cc
-
-    in_kids : (f : Op) → is_differential f ≡ true → (is_hole f || any_has is_hole kids) ≡ true → any_has is_hole kids ≡ true
-    in_kids Op'.DiffF e k = k
-    in_kids _ e k = cc

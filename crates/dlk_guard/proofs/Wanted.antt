@@ -24,25 +24,8 @@ chosen_is items kids p a b c d =
 no_post : (t : Tree) → di_parts (Some t) None ≡ Some RawFact
 no_post (node op kids) = refl
 
-pub without_system : (t : Tree) → subtree t (1 ∷ 0 ∷ 0 ∷ []) ≡ None → di_why t ≡ Some RawFact
-without_system t e = ap (λ o. di_parts o (subtree t (1 ∷ 0 ∷ 1 ∷ []))) e
-
-pub without_post : (t system : Tree) → subtree t (1 ∷ 0 ∷ 0 ∷ []) ≡ Some system → subtree t (1 ∷ 0 ∷ 1 ∷ []) ≡ None → di_why t ≡ Some RawFact
-without_post t system e f = (λ i. di_parts (e i) (f i)) ∙ no_post system
-
 pub with_items : (t system p : Tree) (op : Op) (kids : Forest) → subtree t (1 ∷ 0 ∷ 0 ∷ []) ≡ Some system → subtree t (1 ∷ 0 ∷ 1 ∷ []) ≡ Some p →
     system ≡ node op kids → di_why t ≡ di_items (system_items op) kids p
 with_items t system p op kids e f is = (λ i. di_parts (e i) (f i)) ∙ ap (λ s. di_parts (Some s) (Some p)) is
 
 -- ---- DG
-
-pub ghost_without_system : (t : Tree) → subtree t (1 ∷ 0 ∷ 0 ∷ []) ≡ None → dg_why t ≡ Some RawFact
-ghost_without_system t e = ap dg_parts e
-
-pub ghost_with_items : (t system : Tree) (op : Op) (kids : Forest) → subtree t (1 ∷ 0 ∷ 0 ∷ []) ≡ Some system → system ≡ node op kids →
-    dg_why t ≡ dg_items (system_items op) kids
-ghost_with_items t system op kids e is = ap dg_parts e ∙ ap (λ s. dg_parts (Some s)) is
-
-pub ghost_chosen : (domain : List Tree) (side : Tree) {a b : Option Tree} → subtree side (0 ∷ 0 ∷ []) ≡ a → subtree side (1 ∷ []) ≡ b →
-    dg_conditions domain (Some side) ≡ dg_terms domain a b
-ghost_chosen domain side e f = λ i. dg_terms domain (e i) (f i)

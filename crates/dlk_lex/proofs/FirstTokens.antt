@@ -81,9 +81,6 @@ holds_from h e = h.0 (search (rules, e))
 pub fails_from : {P : Type 0} {b : Bool} → IsTrue b ↔ P → b ≡ false → ¬ P
 fails_from h e p = absurd (search (rules, e, h.1 p))
 
-pub deep_here : (before : List Token) (n : ℕ) (k : TokenKind) → n ≡ bracket_level before → (n ≡ 1200) × (opens k ≡ true) → OpensTooDeep before k
-deep_here before n k e h = (sym e ∙ h.0, h.1)
-
 pub not_deep : (before : List Token) (n : ℕ) (k : TokenKind) → n ≡ bracket_level before → ¬ ((n ≡ 1200) × (opens k ≡ true)) → ¬ OpensTooDeep before k
 not_deep before n k e h d = h (e ∙ d.0, d.1)
 

@@ -31,17 +31,6 @@ abbrev moved : Origin → ℕ → Origin
 moved (Bytes bytes at) to = Bytes bytes to
 moved (Tokens tokens) to = Tokens tokens
 
-abbrev IsFirstIn : Origin → Token → Type 0
-IsFirstIn (Bytes bytes at) t = IsFirst bytes.now at t
-IsFirstIn (Tokens tokens) t = ⊥
-
--- the first token of bytes is taken
-pub byte_taken : (o : Origin) (t : Token) → IsFirstIn o t → IsNext o t (moved o t.end)
-byte_taken (Bytes bytes at) t (first_one some lt up) =
-    next_one some (omega (arith, up.within)) (record { is_origin = up.within; gives = up.found; refuses = up.bad })
-byte_taken (Bytes bytes at) t (none_left is up ends) = at_end is (record { is_origin = up.within; gives = up.found; refuses = up.bad }) ends
-byte_taken (Tokens tokens) t h = absurd h
-
 -- the tokens of an origin
 abbrev IsOf : Origin → List Token → Type 0
 IsOf (Bytes bytes at) ts = ⊥
@@ -84,16 +73,6 @@ token_taken (Tokens tokens) (Tokens later) ts t d h i are first some = go (begin
           refuses = λ bad r. r;
         })
     go (with_end u e is) = absurd (some (ap (λ (x : Token). x.kind) (first ∙ ap (λ (l : List Token). get_or l 0 d) e) ∙ is))
-
-pub end_taken : (o : Origin) (ts : List Token) (t d : Token) → IsOf o ts → AreTokens ts → t ≡ get_or ts 0 d → t.kind ≡ End → IsNext o t o
-end_taken (Bytes bytes at) ts t d h are first is = absurd h
-end_taken (Tokens tokens) ts t d h are first is = go (begins ts are)
-  where
-    go : Begins ts → IsNext (Tokens tokens) t (Tokens tokens)
-    go (with_more u more e s a) = absurd (s (ap (λ (x : Token). x.kind) (sym (first ∙ ap (λ (l : List Token). get_or l 0 d) e)) ∙ is))
-    go (with_end u e k) =
-        let same : t ≡ u = first ∙ ap (λ (l : List Token). get_or l 0 d) e in
-        at_end is (none_taken (Tokens tokens) (subst AreTokens (sym h) are)) (ap (λ (x : Token). x ∷ []) same ∙ sym e ∙ sym h)
 
 module _ (first o p : Origin) (taken : List Token) (t : Token) (passes : Passes first taken o) where
   pub one_taken : IsNext o t p → t.kind ≢ End → Passes first (taken ++ t ∷ []) p

@@ -128,8 +128,3 @@ pub all_split : (bytes : List ℕ) (at : ℕ) (out : List Token) (t : Token) →
     Splits 0 bytes (out ++ t ∷ [])
 all_split bytes at out t a (first_one some lt up) is = absurd (some is)
 all_split bytes at out t a (none_left e up ends) is = a.found (t ∷ []) (up.found (t ∷ []) ends)
-
-pub one_more_split : (bytes : List ℕ) (at : ℕ) (out : List Token) (t : Token) → SplitsUpTo bytes 0 at out → IsFirst bytes at t → t.kind ≢ End
-    → (at < t.end) × SplitsUpTo bytes 0 t.end (out ++ t ∷ [])
-one_more_split bytes at out t a (first_one some lt up) not = (lt, joined bytes at t.end out t a up)
-one_more_split bytes at out t a (none_left e up ends) not = absurd (not e)

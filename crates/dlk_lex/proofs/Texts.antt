@@ -20,10 +20,3 @@ pub not_at_front : (bytes w after : List ℕ) → starts_with eqb bytes w ≡ fa
 not_at_front bytes w after h e =
     let front : take (length w) bytes ≡ w = ap (take (length w)) e ∙ take-append_seam w after in
     true≢false (sym (same_bytes w) ∙ ap (pointwise eqb w) (sym front) ∙ h)
-
--- a text of one byte is at the front of what begins with it
-pub one_at_front : (bytes w : List ℕ) → length w ≡ 1 → 0 < length bytes → get_or w 0 0 ≡ get_or bytes 0 0 → starts_with eqb bytes w ≡ true
-one_at_front (b ∷ bytes) (c ∷ []) one some same = rw (eq-eqb c b same) refl
-one_at_front [] w one some same = absurd (omega (arith, some))
-one_at_front (b ∷ bytes) [] one some same = absurd (omega (arith, one))
-one_at_front (b ∷ bytes) (c ∷ d ∷ w) one some same = absurd (omega (arith, one))

@@ -126,13 +126,6 @@ none_some o a none some = cc
 some_same : {A : Type 0} (o : Option A) (a b : A) → o ≡ Some a → o ≡ Some b → a ≡ b
 some_same o a b e d = cc
 
--- a fitting atom has no name of the library
-pub fitting_own : (atom : Atom) → IsFitting atom → library_row_of atom.name ≡ None
-fitting_own atom h = elim (library_name atom.name) [
-  | inl none ↦ none
-  | inr is ↦ absurd (none_some (row_of atom.name) h.row (library_own atom.name is) h.row_is)
-]
-
 -- one name has the row of `derive`
 pub derive_name : (name : List ℕ) (row : Row) → derive_row_of name ≡ Some row → name ≡ codes "derive"
 derive_name name row is = (bytes_eq-Decides name (codes "derive")).0 (derive_found name row is).0

@@ -479,18 +479,6 @@ bare_dot {t = t} h = (or_parts (has_dots t) false h.no_dot).0
 pub bare_hole : {t : Tree} → AreBare (t ∷ []) → has_hole t ≡ false
 bare_hole {t = t} h = (or_parts (has_hole t) false h.no_hole).0
 
-pub no_dots_formed : {f : Nonterminal} {s : List Lexeme} {p : Phrase} → Reads f s p → Permitted Refused s → has_dots (erase p) ≡ false
-no_dots_formed {s = s} d p = bare_dot ((grown d).bare (plain_from s p))
-
-pub no_hole_formed : {f : Nonterminal} {s : List Lexeme} {p : Phrase} → Reads f s p → Permitted Refused s → has_hole (erase p) ≡ false
-no_hole_formed {s = s} d p = bare_hole ((grown d).bare (plain_from s p))
-
-pub expression_no_dots : {s : List Lexeme} {p : Phrase} → ReadsExpression s p → Permitted Refused s → has_dots (erase p) ≡ false
-expression_no_dots {s = s} d p = bare_dot ((grown_expression d).grown.bare (plain_from s p))
-
-pub expression_no_hole : {s : List Lexeme} {p : Phrase} → ReadsExpression s p → Permitted Refused s → has_hole (erase p) ≡ false
-expression_no_hole {s = s} d p = bare_hole ((grown_expression d).grown.bare (plain_from s p))
-
 formula_from : {w : List Lexeme} {places : List ℕ} {t : Tree} → Grown w (Formula ∷ []) places (t ∷ []) → AreReal w → Permitted Refused w → places ≡ []
     → IsFormula t
 formula_from {w = w} g h p e =
@@ -511,9 +499,6 @@ formulas_in (suc n) (t ∷ ts) e h b =
     let holes = or_parts (has_hole t) (any_has is_hole (forest ts)) b.no_hole in
     All-cons IsFormula t ts (record { well_made = h.0; sort_is = first; no_dot = dots.0; no_hole = holes.0 })
     (formulas_in n ts rest h.1 (record { no_dot = dots.1; no_hole = holes.1 }))
-
-pub list_formed : {s : List Lexeme} {l : Phrases} → ReadsList formula s l → AreReal s → Permitted Refused s → ills_of_all l ≡ [] → AllOf IsFormula (erase_all l)
-list_formed {s = s} {l = l} d h p e = let g = grown_list d in formulas_in (count l) (erase_all l) g.sorts_are (g.made h e) (g.bare (plain_from s p))
 
 -- the two sides of a sequent
 pub grown_side : {s : List Lexeme} {l : Phrases} → ReadsSide s l → Grown s (replicate (count l) Formula) (ills_of_all l) (erase_all l)

@@ -68,10 +68,6 @@ dot_if : (is : Bool) (x y : Tree) → is ≡ true → (if is then x else y) ≡ 
 dot_if true x y e = refl
 dot_if false x y e = cc
 
--- the variable
-pub abstracted_variable : (v : Var) (op : Op) (kids : Forest) → is_variable v op ≡ true → abstracted v (node op kids) ≡ node (Op'.Dot 0) no_kids
-abstracted_variable v op kids e = dot_if (is_variable v op) _ _ e
-
 -- ---- sorts
 
 sort_if : (is : Bool) (x y : Tree) (s : Sort) → sort x ≡ s → sort y ≡ s → sort (if is then x else y) ≡ s
@@ -112,9 +108,6 @@ module _ (v : Var) {before now : List Tree} (keeps : Keeps before now) where
 pub one_outside : (trees : List Tree) (ks : List Id) → 1 ≤ length ks → 1 ≡ count (kid_trees trees ks) - count (later (kid_trees trees ks))
 one_outside trees [] h = absurd (omega arith)
 one_outside trees (k ∷ ks) h = omega arith
-
-pub none_outside : (trees : List Tree) (ks : List Id) → 0 ≡ count (kid_trees trees ks) - count (kid_trees trees ks)
-none_outside trees ks = omega arith
 
 pub nothing_captured : (v : Var) (op : Op) (kids : Forest) (is : Bool) → is ≡ false → is ≡ (captures op).set kids v → (n : ℕ) → n ≡ count kids
     → n ≡ entered v op kids

@@ -43,19 +43,6 @@ each_next test name r rest p q = go (test r) (list_any (bytes_eq (name r)) (map 
     go true true p q = cc
     go false b p q = cc
 
-pub each_not : (test : List ℕ × List ℕ → Bool) (name : List ℕ × List ℕ → List ℕ) (r : List ℕ × List ℕ) (rest : Names)
-    → test r ≡ false → are_each test name (r ∷ rest) ≡ false
-each_not test name r rest p = ap (λ b. b && (not (list_any (bytes_eq (name r)) (map name rest)) && are_each test name rest)) p
-
-pub each_twice : (test : List ℕ × List ℕ → Bool) (name : List ℕ × List ℕ → List ℕ) (r : List ℕ × List ℕ) (rest : Names)
-    → list_any (bytes_eq (name r)) (map name rest) ≡ true → are_each test name (r ∷ rest) ≡ false
-each_twice test name r rest q = go (test r) (list_any (bytes_eq (name r)) (map name rest)) q
-  where
-    go : (a b : Bool) → b ≡ true → a && (not b && are_each test name rest) ≡ false
-    go true true q = refl
-    go true false q = cc
-    go false b q = refl
-
 -- ---- all of them
 
 module _ (test : List ℕ × List ℕ → Bool) (name : List ℕ × List ℕ → List ℕ) (P : List ℕ × List ℕ → Type 0)

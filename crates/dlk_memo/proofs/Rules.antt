@@ -28,9 +28,6 @@ use Rattle.dlk_memo.specs.Rules.{AreReadyArgs, IsReadyFormula, AreReadyPairs, an
 pub args_ready : (trees : List Tree) (ids : List Id) → length ids ≤ 8 → All (IsId trees) ids → AreTerms (args_at trees ids) → AreReadyArgs trees ids
 args_ready trees ids few known terms = record { few = few; known = known; keeps_sort = λ t u well p. plug_sort (args_at trees ids) t u terms p }
 
-pub formula_ready : (trees : List Tree) (id : Id) → IsId trees id → sort (tree trees id) ≡ Formula → IsReadyFormula trees id
-formula_ready trees id known formula = record { known = known; keeps_sort = λ t u well e. ap sort e ∙ fill_sort (tree trees id) t formula }
-
 pub pairs_ready : (trees : List Tree) (pairs : List Pair) → AreKnownPairs trees pairs → IsWellFormed (pairs_at trees pairs) → AreReadyPairs trees pairs
 pairs_ready trees pairs known well = record { known = known; keeps_sort = subst_sort (pairs_at trees pairs) well }
 

@@ -24,10 +24,6 @@ use Rattle.dlk_memo.specs.Tables.{Table, found, HasEachOnce, Puts, Opened, Unope
 pub one_more : (n m : ℕ) (old o : Option (Option Id)) → n ≡ m + cond (is_some old) 0 1 → old ≡ o → o ≡ None → n ≡ m + 1
 one_more n m old o len is none = len ∙ ap (λ (v : Option (Option Id)). m + cond (is_some v) 0 1) (is ∙ none)
 
-pub no_shorter : (n m : ℕ) (old : Option (Option Id)) → n ≡ m + cond (is_some old) 0 1 → m ≤ n
-no_shorter n m None len = omega (arith, len)
-no_shorter n m (Some o) len = omega (arith, len)
-
 pub same_is : (a b : Id) → same_id a b ≡ true → a ≡ b
 same_is a b h i = record { 0 = eqb-true a.0 b.0 h i }
 

@@ -133,10 +133,6 @@ both_begun nodes mid new ts us e b =
     let there : PutSoFar nodes (new_in_each nodes (ts ++ us)) mid (rest ++ []) = same_left (sym (append-nil rest)) (were_put a rest start e) in
     partly_put rest [] there (subst (λ n. AreBegun mid new (new_in_each n us)) e b)
 
--- of one tree
-pub of_one : (nodes : List Tree) (t : Tree) → new_nodes nodes t ≡ new_in_each nodes (t ∷ [])
-of_one nodes t = sym (append-nil (new_nodes nodes t))
-
 -- ---- one tree
 
 pub begun_more : (old new a b : List Tree) → AreBegun old new a → AreBegun old new (a ++ b)

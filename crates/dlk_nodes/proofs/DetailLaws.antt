@@ -47,13 +47,6 @@ pub record IsPrimed (v : Var) (front behind : List ℕ) : Type 0 where
   pub nothing : behind ≡ []
   pub real : is_name front ≡ true
 
-pub no_plain : (text : List ℕ) → Uncut 39 text → ¬ IsTrue (is_name text) → (v : Var) → ¬ SpellsVariable text v
-no_plain text uncut none v s = by_test v.primed s.text_is
-  where
-    by_test : (b : Bool) → text ≡ (if b then v.name ++ codes "'" else v.name) → ⊥
-    by_test true e = uncut v.name [] e
-    by_test false e = none (subst (λ x. is_name x ≡ true) (sym e) s.real)
-
 pub primed_parts : (text front behind : List ℕ) (v : Var) → CutAt text 39 front behind → SpellsVariable text v → IsPrimed v front behind
 primed_parts text front behind v cut s = by_test v.primed refl s.text_is
   where
@@ -78,13 +71,6 @@ no_taboo_part x y h = and_parts (is_name x) (taboo_is_name y) h
 
 unit_grouped : (x t : List ℕ) → x ++ codes "|" ++ t ++ codes "|" ≡ x ++ 124 ∷ (t ++ 124 ∷ [])
 unit_grouped x t = simp append_assoc
-
-pub no_bare_unit : (text : List ℕ) → Uncut 124 text → ¬ IsTrue (is_name text) → (u : List ℕ × Option (List ℕ)) → ¬ SpellsUnit text u
-no_bare_unit text uncut none u s = by_taboo u.1 s.text_is
-  where
-    by_taboo : (y : Option (List ℕ)) → text ≡ unit_text u.0 y → ⊥
-    by_taboo None e = none (subst (λ x. is_name x ≡ true) (sym e) (no_taboo_part u.0 u.1 s.real).0)
-    by_taboo (Some t) e = uncut u.0 (t ++ 124 ∷ []) (e ∙ unit_grouped u.0 t)
 
 pub record HasTaboo (u : List ℕ × Option (List ℕ)) (front : List ℕ) (text : List ℕ → List ℕ) (behind : List ℕ) : Type 0 where
   pub taboo : List ℕ
@@ -122,13 +108,6 @@ taboo_cut behind taboo end t rest cut e real = one_cut behind 124 taboo t end re
 
 constant_grouped : (x t : List ℕ) → x ++ codes "{|" ++ t ++ codes "|}" ≡ x ++ 123 ∷ (124 ∷ (t ++ 124 ∷ 125 ∷ []))
 constant_grouped x t = simp append_assoc
-
-pub no_bare_constant : (text : List ℕ) → Uncut 123 text → ¬ IsTrue (is_name text) → (u : List ℕ × Option (List ℕ)) → ¬ SpellsConstant text u
-no_bare_constant text uncut none u s = by_taboo u.1 s.text_is
-  where
-    by_taboo : (y : Option (List ℕ)) → text ≡ constant_text u.0 y → ⊥
-    by_taboo None e = none (subst (λ x. is_name x ≡ true) (sym e) (no_taboo_part u.0 u.1 s.real).0)
-    by_taboo (Some t) e = uncut u.0 (124 ∷ (t ++ 124 ∷ 125 ∷ [])) (e ∙ constant_grouped u.0 t)
 
 pub constant_parts : (text front behind : List ℕ) (u : List ℕ × Option (List ℕ)) → CutAt text 123 front behind → SpellsConstant text u →
     HasTaboo u front (λ t. 124 ∷ (t ++ 124 ∷ 125 ∷ [])) behind
@@ -204,24 +183,6 @@ evolved_parts text front behind (Const c) cut s =
 any_taboo : (y : Option (List ℕ)) → (is_none y || true) ≡ true
 any_taboo None = refl
 any_taboo (Some y) = refl
-
-pub constant_item : (text x : List ℕ) (y : Option (List ℕ)) → SpellsConstant text (x, y) → SpellsItem text (Const (record {
-  kind = Ode;
-  name =
-      x;
-  arity = 0;
-  taboo = y;
-}))
-constant_item text x y s =
-    let r = no_taboo_part x y s.real in
-    record {
-      real = and_from (is_name x && true && taboo_is_name y) (is_none y || true)
-          (and_from (is_name x && true) (taboo_is_name y) (and_from (is_name x) true r.0 refl) r.1) (any_taboo y);
-      text_is = s.text_is;
-    }
-
-pub evolved_item : (text front behind : List ℕ) → CutAt text 39 front behind → behind ≡ [] → is_name front ≡ true → SpellsItem text (Evolve front)
-evolved_item text front behind cut empty real = record { real = real; text_is = cut.text_is ∙ ap (λ l. front ++ 39 ∷ l) empty }
 
 -- ---- the items of a system
 

@@ -44,9 +44,6 @@ pub data Maker : Type 0 where
 abbrev row : List ℕ → Maker → List ℕ × Maker
 row word maker = (word, maker)
 
-abbrev unit_of : List ℕ × Option (List ℕ) → Sym
-unit_of u = record { kind = UnitFunc; name = u.0; arity = 0; taboo = u.1 }
-
 unfoldable pub makers : List (List ℕ × Maker)
 makers =
     row (codes "box") (Plain op.Box) ∷ row (codes "add") (Plain op.Add) ∷ row (codes "mul") (Plain op.Mul) ∷ row (codes "system") (OfList op.System)

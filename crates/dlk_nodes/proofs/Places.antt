@@ -36,14 +36,6 @@ there_behind nodes more t h = list_any-append (tree_eq t) nodes more ∙ ap (λ 
 pub in_neither : (nodes more : List Tree) (t : Tree) → has_node nodes t ≡ false → has_node more t ≡ false → has_node (nodes ++ more) t ≡ false
 in_neither nodes more t h g = list_any-append (tree_eq t) nodes more ∙ ap (λ b. b || has_node more t) h ∙ g
 
-pub still_each : (nodes more ts : List Tree) → AreThere nodes ts → AreThere (nodes ++ more) ts
-still_each nodes more [] h = tt
-still_each nodes more (t ∷ ts) h = (still_there nodes more t h.0, still_each nodes more ts h.1)
-
-pub still_kids : (nodes more : List Tree) (kids : Forest) → KidsThere nodes kids → KidsThere (nodes ++ more) kids
-still_kids nodes more no_kids h = tt
-still_kids nodes more (kid t rest) h = (still_there nodes more t h.0, still_kids nodes more rest h.1)
-
 pub front_there : (nodes xs ys : List Tree) → AreThere nodes (xs ++ ys) → AreThere nodes xs
 front_there nodes [] ys h = tt
 front_there nodes (x ∷ xs) ys h = (h.0, front_there nodes xs ys h.1)

@@ -42,15 +42,6 @@ nodes_kept old new keeps (i ∷ ids) all =
 pub all_kept : (old new : List Tree) → Keeps old new → (ids : List Id) → All (IsId old) ids → All (IsId new) ids
 all_kept old new keeps ids all = λ i d less. let h = all i d less in let k = keeps.known in omega (arith, h, k)
 
-pub one_more_sort : (trees : List Tree) (ids : List Id) (i : ℕ) (d : Id) (s : Sort) → i < length ids → s ≡ sort (tree trees (get_or ids i d)) →
-    sorts_at trees (take i ids) ++ s ∷ [] ≡ sorts_at trees (take (i + 1) ids)
-one_more_sort trees ids i d s less is =
-    ap (λ x. sorts_at trees (take i ids) ++ x ∷ []) is ∙ sym (ap (sorts_at trees) (take_more ids i d less)
-    ∙ map-append (λ k. sort (tree trees k)) (take i ids) (get_or ids i d ∷ []))
-
-pub all_sorts : (trees : List Tree) (ids : List Id) (i : ℕ) → length ids ≤ i → sorts_at trees (take i ids) ≡ sorts_at trees ids
-all_sorts trees ids i le = ap (sorts_at trees) (take_all i ids le)
-
 -- numbers of ids of the table are known
 pub named_known : {A : Type 0} (P : A → Type 0) (items : List A) (text : List ℕ) (xs : List A) → All P items → NamesEach items text xs → All P xs
 named_known P items _ _ all none_behind = All-nil P

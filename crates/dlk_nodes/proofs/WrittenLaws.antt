@@ -37,10 +37,6 @@ items_left items k d less left =
     ap later_items (drop-cons items k d less ∙ ap (λ n. get_or items k d ∷ drop n items) (sym (add-one k))) ∙ simp append_assoc in
     same_rest e left
 
-pub no_items_left : {old text now : List ℕ} (items : List OdeItem) (k : ℕ) → length items ≤ k → Left old text now (later_items (drop k items)) →
-    Left old text now []
-no_items_left items k le left = same_rest (ap later_items (drop_all k items le)) left
-
 -- ---- kids
 
 module _ (trees : List Tree) (nodes : List Tree) where

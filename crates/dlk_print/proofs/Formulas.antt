@@ -27,11 +27,6 @@ at_formula trees between ids i d h a =
     same_rest (ap (λ ts. spell (pending shown between i ts)) (trees_at trees ids i d h)
     ∙ pending-next shown between i (tree trees (get_or ids i d)) (map (tree trees) (drop (i + 1) ids))) a
 
--- no formula is left
-pub past_formulas : {old text now : List ℕ} (trees : List Tree) (between : List Piece) (ids : List Id) (i : ℕ) → length ids ≤ i →
-    Left old text now (spell (pending shown between i (map (tree trees) (drop i ids)))) → Left old text now []
-past_formulas trees between ids i h a = same_rest (rw (drop_all i ids h) (pending-none shown between i)) a
-
 -- the sizes from the i-th on
 pub sizes_at : (trees : List Tree) (ids : List Id) (i : ℕ) (d : Id) → i < length ids →
     sum_by size (map (tree trees) (drop i ids)) ≡ size (tree trees (get_or ids i d)) + sum_by size (map (tree trees) (drop (i + 1) ids))

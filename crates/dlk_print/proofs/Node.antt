@@ -49,11 +49,6 @@ at_kid trees o ks i d h a =
     same_rest (first ∙ pending-next (λ t. t) (between o) i (shown_at (least o i) (tree trees (get_or ks i d)))
     (shown_kids o (i + 1) (kid_trees trees (drop (i + 1) ks)))) a
 
--- no kid is left
-pub past_kids : {old text now : List ℕ} (trees : List Tree) (o : Op) (ks : List Id) (i : ℕ) → length ks ≤ i →
-    Left old text now (spell (pending (λ t. t) (between o) i (shown_kids o i (kid_trees trees (drop i ks))))) → Left old text now []
-past_kids trees o ks i h a = same_rest (rw (drop_all i ks h) (pending-none (λ t. t) (between o) i)) a
-
 either_one : (b : Bool) → ◌≡◌ {A = ℕ} (cond b 1 1) 1
 either_one true = refl
 either_one false = refl

@@ -36,11 +36,6 @@ at_pair trees pairs i p e h a =
     same_rest (ap (λ ps. spell (pending shown_pair comma i ps)) (pairs_from trees pairs i p e h)
     ∙ pending-next shown_pair comma i (pair_at trees p) (pairs_at trees (drop (i + 1) pairs))) a
 
--- no pair is left
-pub past_pairs : {old text now : List ℕ} (trees : List Tree) (pairs : List Pair) (i : ℕ) → length pairs ≤ i →
-    Left old text now (spell (pending shown_pair comma i (pairs_at trees (drop i pairs)))) → Left old text now []
-past_pairs trees pairs i h a = same_rest (rw (drop_all i pairs h) (pending-none shown_pair comma i)) a
-
 -- the sizes from the i-th on
 pub sizes_from : (trees : List Tree) (pairs : List Pair) (i : ℕ) (p : Pair) → p ≡ get_or pairs i p → i < length pairs →
     sizes (pairs_at trees (drop i pairs)) ≡ size (pair_at trees p).by + sizes (pairs_at trees (drop (i + 1) pairs))

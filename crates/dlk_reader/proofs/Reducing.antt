@@ -51,9 +51,3 @@ closed_err n T q x items out new l k f t is at j =
     let at' : out ≡ stack_code w.1 ++ (part_code w.0 ++ piece_code q) = at ∙ ap (λ (S : List Part). stack_code S ++ piece_code q) w.2
     ∙ append_assoc (stack_code w.1) (part_code w.0) (piece_code q) in
     rw (w.5 q) (agrees_err (Joins new (stack_code w.1)) (Reduces k) f (join w.0 q) (reduce n w.1) (j w.0 q (stack_code w.1) w.3 is at'))
-
-pub all_closed : (n : ℕ) (T : List Part) (q : Piece) (items : List OpenPart) (l : Last) (k : Stack) → TakesAbove n T None items → IsLast l q →
-    k.parts.items ≡ items → k.out.items ≡ stack_code T ++ piece_code q → Agrees (Reduces k) (Ok l) (reduce n T q)
-all_closed n T q items l k t is ki at =
-    let w = none_taken n T items q t in
-    rw w.1 (record { last = is; lists = record { parts = ki ∙ w.0; out = at } })

@@ -32,13 +32,6 @@ kept_more text more new left rest whole bytes after limit k left_is after_is kep
 abbrev pub left_text : List Tree → ℕ → List Step → List ℕ
 left_text nodes number steps = ended (step_lines nodes number steps ++ codes "done" ∷ [])
 
--- the head is kept first
-pub kept_head : (steps : List Step) (new : List ℕ) (bytes limit : ℕ) → bytes ≡ 6 → (bytes ≤ limit → new ≡ [] ++ codes "dlk 2\n") →
-    Kept new bytes limit (left_text [] 1 steps) (term_text steps)
-kept_head steps new bytes limit bytes_are kept =
-    kept_more [] (codes "dlk 2\n") new (term_text steps) (left_text [] 1 steps) (term_text steps) 0 bytes limit (kept_none limit (term_text steps)) refl
-    bytes_are kept
-
 -- the item at a place, before those behind it
 next_item : {A : Type 0} (items : List A) (i : ℕ) (item : A) → i < length items → item ≡ get_or items i item → drop i items ≡ item ∷ drop (i + 1) items
 next_item {A} items i item within is =

@@ -92,6 +92,3 @@ some_line (b ∷ bs) some =
 
 pub no_lines_left : (bytes : List ℕ) (empty : Bool) → empty ≡ (length bytes == 0) → empty ≡ true → file_lines bytes ≡ []
 no_lines_left bytes empty e is = ap file_lines (nil_from_length bytes (eqb-true (length bytes) 0 (sym e ∙ is)))
-
-pub line_left_over : (bytes : List ℕ) (empty : Bool) → empty ≡ (length bytes == 0) → empty ≡ false → FirstOf (file_lines bytes)
-line_left_over bytes empty e is = some_line bytes (λ none. false≢true (sym is ∙ e ∙ ap (λ l. length l == 0) none))

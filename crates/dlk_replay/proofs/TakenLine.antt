@@ -91,11 +91,6 @@ module _ (Is : List ℕ → Line → Type 0) (text : List ℕ) where
 
 -- ---- a step that the kernel doesn't take
 
-pub step_refused : (place number : ℕ) (rows : List Provable) (step : Step) (fault : StepFault) → number ≡ length rows + 1 →
-    IsRefused (Fault rows step) fault → IsStepFault place number rows step (of_step place fault)
-step_refused place number rows step (step_fault.Refused reason) own why = (refl, own, why)
-step_refused place number rows step step_fault.Memory own why = tt
-
 -- ---- version 1
 
 pub none_in_full : (text : List ℕ) → ((line : full.Line) → ¬ full.IsLine text line) → (line : Line) → ¬ IsLineInFull text line

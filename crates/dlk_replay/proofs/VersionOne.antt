@@ -52,7 +52,3 @@ said_if_line before line (inr none) = inr says_none
 
 pub some_said : (before : List (List ℕ)) (line : List ℕ) → ((s : Said) × SaysLine before line s) ⊎ ((s : Said) → ¬ SaysLine before line s)
 some_said before line = said_if_line before line (some_line line)
-
--- its step is a proper one
-pub said_proper : (before : List (List ℕ)) (line : List ℕ) (step : Step) → SaysLine before line (TakesStep step) → IsProper step
-said_proper before line step is = line_proper line (length before + 1) step is

@@ -50,14 +50,6 @@ pub room : (words : List (String Global)) (command : Command) (n : ℕ) → n �
     command_of (map string_bytes words) ≡ Some command → 1 + n ≤ length words
 room words command n count h = omega (arith, long_enough (map string_bytes words) command h, length-map words (string_bytes {Z = Global}))
 
-pub names_there : (words : List (String Global)) (command : Command) (n : ℕ) → n ≡ length (form_of command).inputs →
-    map string_bytes (take (1 + n - 1) (drop 1 words)) ≡ inputs_of command (map string_bytes words)
-names_there words command n count =
-    let k = length (form_of command).inputs in
-    let same : 1 + n - 1 ≡ k = omega (arith, count) in
-    ap (λ (m : ℕ). map string_bytes (take m (drop 1 words))) same ∙ sym (take-map string_bytes k (drop 1 words))
-    ∙ ap (λ (ws : List (List ℕ)). take k ws) (sym (drop-map string_bytes 1 words))
-
 pub others_there : (words : List (String Global)) (command : Command) (n : ℕ) → n ≡ length (form_of command).inputs →
     map string_bytes (take (length words - (1 + n)) (drop (1 + n) words)) ≡ others_of command (map string_bytes words)
 others_there words command n count =

@@ -16,27 +16,9 @@ use Rattle.dlk_rules.specs.declared.rule.RuleFault.{RuleFault}
 use Rattle.dlk_rules.specs.declared.rule.RuleFault.TheVariants as fault
 use Rattle.dlk_rules.specs.Looks.{IsAt, IsNodeAt, IsKidAt, AreKidsAt, IsFormFault}
 
--- the id at a place stands for the formula there
-pub at_read : (trees : List Tree) (ids : List Id) (place : ℕ) (id : Id) → All (IsId trees) ids → at ids place ≡ Some id →
-    IsAt trees (map (tree trees) ids) place id
-at_read trees ids place id known e = record {
-  place_is = At_place (map (tree trees) ids) place (tree trees id) (At-map (tree trees) ids place id e);
-  f = tree trees id;
-  at = At-map (tree trees) ids place id e;
-  stands = record { known = At_All (IsId trees) ids place id known e; tree_is = refl };
-}
-
-pub none_read : (trees : List Tree) (ids : List Id) (place : ℕ) → at ids place ≡ None → ¬ IsPlace (map (tree trees) ids) place
-none_read trees ids place e = at_none (map (tree trees) ids) place (at-map (tree trees) ids place ∙ ap (option_map (tree trees)) e)
-
 module _ {trees side : List Tree} {place : ℕ} {o : Op} {kids : List Id} (n : IsNodeAt trees side place o kids) where
   pub other_op : (op : Op) → (¬ (o ≡ op)) → (p : Forest) → ¬ At side place (node op p)
   other_op op m p h = m (ap root (at_one side place _ (node op p) n.at h))
-
-pub no_kids_at : (trees side : List Tree) (place : ℕ) (op : Op) (kids : List Id) → IsNodeAt trees side place op kids → kid_sorts op ≡ [] →
-    At side place (leaf op)
-no_kids_at trees side place op [] n e = n.at
-no_kids_at trees side place op (a ∷ rest) n e = let k = n.sorts_are ∙ e in cc
 
 pub one_kid : (trees side : List Tree) (place : ℕ) (op : Op) (kids : List Id) (d : Id) → IsNodeAt trees side place op kids → kid_sorts op ≡ Formula ∷ [] →
     IsKidAt trees side place op (get_or kids 0 d)

@@ -160,16 +160,6 @@ place_fault rule s trees ids place fault.NotEqual wants h = absurd h
 place_fault rule s trees ids place fault.NotFresh wants h = absurd h
 place_fault rule s trees ids place fault.Memory wants h = absurd h
 
--- the fault of a rule whose places or form aren't there
-pub shape_fault : (rule : Rule) (s : TreeSequent) (why : RuleFault) →
-    IsShapeFault (figure rule s.ante s.succ).places (figure rule s.ante s.succ).Parts (figure rule s.ante s.succ).shape why →
-    IsRuleFault (FirstAgainst rule s) why
-shape_fault rule s fault.NoPlace h = first_no_place rule s h
-shape_fault rule s fault.WrongShape h = first_wrong_shape rule s h.0 h.1
-shape_fault rule s fault.NotEqual h = absurd h
-shape_fault rule s fault.NotFresh h = absurd h
-shape_fault rule s fault.Memory h = tt
-
 -- or whose variable isn't fresh, where nothing is to be the same
 pub fresh_fault : (rule : Rule) (s : TreeSequent) (why : RuleFault) → ((p : (figure rule s.ante s.succ).Parts) → (figure rule s.ante s.succ).equals p) →
     IsFreshFault (figure rule s.ante s.succ).places (figure rule s.ante s.succ).Parts (figure rule s.ante s.succ).shape (figure rule s.ante s.succ).fresh why →

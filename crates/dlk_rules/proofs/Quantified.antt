@@ -51,12 +51,6 @@ quantified_node trees side place quantifier op kids d x v n is sorts e =
       f_stands = m.f_stands;
     }
 
--- another operator is no such quantifier
-pub no_quantifier : {trees side : List Tree} {place : ℕ} {op : Op} {kids : List Id} (quantifier : Quantifier) → IsNodeAt trees side place op kids →
-    IsOther quantifier op →
-    IsPlace side place × ((p : List ℕ × Tree) → ¬ At side place (one (quantifier_of quantifier p.0) p.1))
-no_quantifier quantifier n o = (n.place_is, λ p. other_op n (quantifier_of quantifier p.0) (o.other p.0) (kid p.1 no_kids))
-
 -- the variable of a quantifier at a place
 module _ {trees side : List Tree} {place : ℕ} {quantifier : Quantifier} {v : Var} {f : Id} (at : IsQuantifiedAt trees side place quantifier v f) where
   pub unread : (s : Sequent) → false ≡ is_read s v → IsFreshIn s v.name

@@ -56,9 +56,6 @@ come_open bytes at y c ge e =
     subst (λ (n : ℕ). Stops bytes n) (length-take-le at bytes c.within)
     (subst (λ (x : List ℕ). Stops x (length (take at bytes))) (all_taken bytes at c.within ge) stop)
 
-pub come_digits : (bytes : List ℕ) (at : ℕ) (y : State) → Come bytes at y → HasDigits y
-come_digits bytes at y c = has_digits (take at bytes) y c.reached
-
 -- the fault of a step, and that of the end
 pub fault_at : (bytes : List ℕ) (at : ℕ) (y new : State) → Come bytes at y → at < length bytes → (f : StepFault) →
     Does (step y at (get_or bytes at 0)) (Err f) new → IsPartsFaultOf bytes (stop_at f at)

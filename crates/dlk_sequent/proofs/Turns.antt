@@ -90,9 +90,6 @@ pub record Walked (trees : List Tree) (id : Id) (path : List ℕ) (at : Id) (i :
   pub known : IsId trees at
   pub rest : subtree (tree trees id) path ≡ subtree (tree trees at) (drop i path)
 
-pub not_walked : (trees : List Tree) (id : Id) (path : List ℕ) → IsId trees id → Walked trees id path id 0
-not_walked trees id path known = record { known = known; rest = refl }
-
 none_or_some : (o : Option Tree) → (o ≡ None) ⊎ ((t : Tree) × (o ≡ Some t))
 none_or_some None = inl refl
 none_or_some (Some t) = inr (t, refl)
@@ -124,12 +121,6 @@ module _ (trees : List Tree) (id : Id) (path : List ℕ) (at : Id) (i d : ℕ) (
         ∙ subtree_join (tree trees at) (k ∷ []) (drop (i + 1) path) (tree trees next) to.stands;
   }
 
-pub walked_all : (trees : List Tree) (id : Id) (path : List ℕ) (at : Id) (i : ℕ) → Walked trees id path at i → length path ≤ i → LeadsTo trees id path at
-walked_all trees id path at i w past = record {
-  known = w.known;
-  stands = w.rest ∙ ap (subtree (tree trees at)) (drop_all i path past) ∙ subtree_nil (tree trees at);
-}
-
 -- one more turn at the end
 pub start_stays : (turns : List Turn) (turn : Turn) (next : Id) → start (turns ++ turn ∷ []) next ≡ start turns turn.node
 start_stays [] turn next = refl
@@ -153,9 +144,6 @@ pub record PutSoFar (old now : List Tree) (rest : List Turn) (found new made : I
   pub known : IsId now made
   pub made_is : tree now made ≡ put_at (tree old (start rest found)) (kids_of rest) (tree old new)
   pub same : sort (tree now made) ≡ sort (tree old (start rest found))
-
-pub nothing_put : (old : List Tree) (found new : Id) → IsId old new → sort (tree old new) ≡ sort (tree old found) → PutSoFar old old [] found new new
-nothing_put old found new known same = record { known = known; made_is = sym (put_nil (tree old found) (tree old new)); same = same }
 
 module _ {old now : List Tree} (keeps : Keeps old now) (turn : Turn) (rest : List Turn) (found new made : Id) (are : AreTurns old (turn ∷ rest) found)
     (p : PutSoFar old now rest found new made) where
@@ -241,11 +229,3 @@ innermost_found trees way outer formula are p is = record {
     smallest = subst (NoneBelow (tree trees formula)) (sym (drop-map (λ (turn : Turn). turn.kid) outer way.turns)) p.none;
   };
 }
-
-pub innermost_missing : (trees : List Tree) (way : Way) (outer : ℕ) (formula : Id) → NoneSoFar trees way outer formula → outer ≡ 0
-    → sort (tree trees formula) ≢ Formula → HasNoInnermost trees way
-innermost_missing trees way outer formula p zero_is other =
-    let all : drop outer way.turns ≡ way.turns = ap (λ n. drop n way.turns) zero_is in
-    let first : formula ≡ top way = p.at ∙ ap (λ turns. start turns way.found) all in
-    no_innermost (tree trees (top way)) (path_of way) (subst (λ id. sort (tree trees id) ≢ Formula) first other)
-    (subst (λ id. NoneBelow (tree trees id) (path_of way)) first (subst (λ turns. NoneBelow (tree trees formula) (kids_of turns)) all p.none))

@@ -79,20 +79,6 @@ back_then_back trees k t k' t' k'' t'' a b = record {
   within = b.within;
 }
 
-pub back_then_more : {S : Type 0} (trees : S → List Tree) (k : State S) (t : Trace) (k' : State S) (t' : Trace) (k'' : State S) (t'' : Trace) →
-    IsBack trees k t k' t' →
-    Extends trees k' t' k'' t'' → Extends trees k t k'' t''
-back_then_more trees k t k' t' k'' t'' a b = record {
-  rows = record {
-    ids = ap (λ xs. take (length xs) k''.rows) (sym a.rows.ids) ∙ b.rows.ids ∙ a.rows.ids;
-    provables = ap (λ xs. take (length xs) (facts trees k'')) (sym a.rows.ids) ∙ b.rows.provables ∙ a.rows.provables;
-  };
-  steps = ap (λ xs. take (length xs) t''.steps.items) (sym a.steps) ∙ b.steps ∙ a.steps;
-  known = b.known;
-  counted = omega (arith, a.counted, b.counted);
-  within = b.within;
-}
-
 -- what becomes of the places from this one on is what becomes of all
 abbrev pub Leads : Atom → Side → ℕ → ℕ → FailWhy → Progress → Progress → Type 0
 Leads atom on goal tried why first here = (s : Sequent) → At (main_goals first.rows) goal s → (o : Outcome) →

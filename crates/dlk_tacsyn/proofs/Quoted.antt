@@ -50,10 +50,6 @@ weaken P Q h fault.Memory p = tt
 abbrev pub behind : List Argument → Option (List Argument) → Option (List Argument)
 behind before more = option_map (λ rest. before ++ rest) more
 
-pub behind_none : (more : Option (List Argument)) → more ≡ behind [] more
-behind_none None = refl
-behind_none (Some rest) = refl
-
 behind_next : (before : List Argument) (a : Argument) (more : Option (List Argument)) →
     behind before (option_map (λ rest. a ∷ rest) more) ≡ behind (before ++ a ∷ []) more
 behind_next before a None = refl

@@ -158,13 +158,6 @@ has_stays old new r grows within v = by (number_of old v) refl
 pub within_stays : (old new : List Var) (r : Row) → Grows old new → IsWithin old r → IsWithin new r
 within_stays old new r grows within n h = within n (omega (arith, h, ap length grows.is, length-append old grows.more))
 
-pub grows_itself : (table : List Var) → Grows table table
-grows_itself table = record { more = []; is = sym (append_nil table) }
-  where
-    append_nil : (xs : List Var) → xs ++ [] ≡ xs
-    append_nil [] = refl
-    append_nil (x ∷ xs) = ap (λ l. x ∷ l) (append_nil xs)
-
 pub grows_on : (a b c : List Var) → Grows a b → Grows b c → Grows a c
 grows_on a b c p q = record {
   more = p.more ++ q.more;

@@ -30,9 +30,6 @@ stands_at table v n e =
     let p = position-Some (var_eq v) table n v e in
     slice_get-get_or table n v p.0 ∙ ap Some (sym (var_same v (get_or table n v) p.1))
 
-pub number_within : (table : List Var) (v : Var) (n : ℕ) → number_of table v ≡ Some n → n < length table
-number_within table v n e = (position-Some (var_eq v) table n v e).0
-
 -- the first place at which it stands
 first_at : (table : List Var) (v : Var) (n : ℕ) → n < length table → ((k : ℕ) → k < n → var_eq v (get_or table k v) ≡ false)
     → var_eq v (get_or table n v) ≡ true → number_of table v ≡ Some n
