@@ -6,5 +6,5 @@ use Rattle.dlk_shared.proofs.signs.SignTable.number.Goals as goal
 
 pub returns-clause-keeps : goal.returns-clause-keeps
 returns-clause-keeps c =
-    inserted_keeps SymEq.ghosts.eq c.args.self.now c.self.inside.syms.keys c.insert_full.new.self.keys c.self.inside.signs.keys c.in_ok-clone.field-0
+    inserted_keeps SymEq.ghosts.eq c.args.self.now c.self.inside.syms.keys c.insert_full.new.self.keys c.self.inside.rows c.in_ok-clone.field-0
     (ap (λ (t : SignTable). t.syms) c.self.view_is) (ap (λ (t : SignTable). t.signs) c.self.view_is) c.in_ok-n.ensures.keys
