@@ -7,3 +7,4 @@ pub mod NoAnswers
 pub mod Looks
 pub mod WrittenTerms
 pub mod Sessions
+pub mod Served

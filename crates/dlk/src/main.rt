@@ -1,12 +1,9 @@
 //! A theorem prover with a small kernel for differential dynamic logic.
 #![tactic(auto)]
 
-ghost use Rattle.std.specs.Prelude.{◌≡◌, ◌<◌, ◌⊎◌, drop, map, string_bytes};
+ghost use Rattle.std.specs.Prelude.{◌≡◌, ◌<◌, drop, map, string_bytes};
 ghost use Rattle.std.specs.Process.{exit_status};
-ghost use Rattle.dlk.specs.Runs.{Caused, Asks, Keeps, HasInputs, Answered, Completes};
-ghost use Rattle.dlk.specs.Headline.{DerivedTruly, ClosedTruly, JudgesTruly, ProvesTruly, GuardsTruly};
-ghost use Rattle.dlk.specs.WrittenTerms.{ConvertsTruly, LinksTruly, TrimsTruly};
-ghost use Rattle.dlk.specs.Sessions.{SessionsTruly};
+ghost use Rattle.dlk.specs.Served.{Serves};
 
 mod call;
 mod explain;
@@ -57,26 +54,12 @@ fn command_line(rt: &HostRuntime) -> Result<Vec<String>, AllocError> {
 
 /// Runs on a desk, with a counter of steps that no one reads. The status is that of `run`.
 ///
-/// So are the clauses, word for word. `looks` alone is not among them: it speaks of that counter, which ends here.
+/// So are the clauses, of which `Serves` has each but `looks`: that speaks of the counter, which ends here.
 fn start<D: Desk, L: Ledger>(alloc: Global, words: &[String], desk: &mut D, blank: Blank) -> u8
     requires name { blank.name ≡ L.name }
     requires parts { blank.parts ≡ L.parts }
     requires some { 0 < blank.parts }
-    ensures derived_truly { D.tells → DerivedTruly (map string_bytes words.now) result (D.outside desk.old) (D.outside desk.new) }
-    ensures closed_truly { D.tells → ClosedTruly (map string_bytes words.now) result (D.outside desk.old) (D.outside desk.new) }
-    ensures judges_truly { D.tells → JudgesTruly (map string_bytes words.now) result (D.outside desk.old) (D.outside desk.new) }
-    ensures proves_truly { D.tells → ProvesTruly (map string_bytes words.now) result (D.outside desk.old) (D.outside desk.new) }
-    ensures guards_truly { D.tells → GuardsTruly (map string_bytes words.now) result (D.outside desk.old) (D.outside desk.new) }
-    ensures converts_truly { D.tells → ConvertsTruly (map string_bytes words.now) result (D.outside desk.old) (D.outside desk.new) }
-    ensures links_truly { D.tells → LinksTruly (map string_bytes words.now) result (D.outside desk.old) (D.outside desk.new) }
-    ensures trims_truly { D.tells → TrimsTruly (map string_bytes words.now) result (D.outside desk.old) (D.outside desk.new) }
-    ensures sessions_truly { D.tells → SessionsTruly (map string_bytes words.now) result (D.outside desk.old) (D.outside desk.new) }
-    ensures caused { Caused (map string_bytes words.now) result (D.outside desk.old) (D.outside desk.new) }
-    ensures asks { Asks D.tells (map string_bytes words.now) result (D.outside desk.old) (D.outside desk.new) }
-    ensures keeps { Keeps D.tells (map string_bytes words.now) result (D.outside desk.old) (D.outside desk.new) }
-    ensures lacks { D.tells → (HasInputs (map string_bytes words.now) (D.outside desk.old) → ⊥) → (result ≡ 4) ⊎ (result ≡ 6) }
-    ensures answered { D.tells → HasInputs (map string_bytes words.now) (D.outside desk.old) → Answered (map string_bytes words.now) result (D.outside desk.old) (D.outside desk.new) }
-    ensures completes { D.tells → HasInputs (map string_bytes words.now) (D.outside desk.old) → Completes (map string_bytes words.now) result (D.outside desk.old) (D.outside desk.new) }
+    ensures { Serves D.tells (map string_bytes words.now) result (D.outside desk.old) (D.outside desk.new) }
 {
     let mut steps = Steps::<L>::new(blank);
     run(alloc, words, desk, &mut steps)
