@@ -1,7 +1,7 @@
 // Steps with two reasons against them at once, a row for each pair that a file can say of one step: the first of the two is said.
 //
 // No row is here for these:
-// - LinesFull and another reason: the kernel looks for it last, at one place for all steps; the row is in `limits.rs`.
+// - LinesFull and another reason: the kernel looks for it last, at one place for all steps; the row is in `limits.rt`.
 // - TooBig and TooDeep, or one of them and SideFull, of a start or a leaf: in a file such a formula is malformed. The kernel looks for these
 //   three limits at one place, for starts, leaves and rules.
 //
@@ -14,6 +14,7 @@
 //   NotFresh, since no rule asks for both.
 // - a limit but LinesFull, and a reason that is no limit: a limit speaks of what the step gives, and such a step gives nothing.
 // - TooBig, TooDeep or SideFull, and GoalsFull or LeavesFull, of a merge: it makes no formula and no sequent.
+// - TooBig or TooDeep, and SideFull or GoalsFull, of a substitution: it keeps the number of formulas on each side, and that of goals.
 use super::limits::{Draft, empty, trues};
 use super::*;
 
@@ -25,8 +26,16 @@ fn says_the_first_of_two_reasons(rt: HostRuntime) -> Result<(), Fail> {
         ("1 start ==> x>=0\n2 merge 1 2 9\n", "line 2: NoFact"),
         // NoFact and IllSubst
         ("1 axiom V\n2 subst 9 p()~>._0>=0\n", "line 2: NoFact"),
-        // NoPlace and WrongShape
+        // NoPlace and WrongShape, also of a cut's own formula
         ("1 start p() ==>\n2 apply 1 1 andL(2)\n", "line 2: NoPlace"),
+        (
+            "dlk 2\nnode 1 dot 0\nnode 2 num 0\nnode 3 ge 1 2\n1 start ==>\n2 apply 1 1 cutL(1,#3)\n",
+            "line 6: NoPlace",
+        ),
+        (
+            "dlk 2\nnode 1 dot 0\nnode 2 num 0\nnode 3 ge 1 2\n1 start ==>\n2 apply 1 1 cutR(1,#3)\n",
+            "line 6: NoPlace",
+        ),
         // WrongShape and NotArith
         (
             "dlk 2\nnode 1 dot 0\nnode 2 num 0\nnode 3 ge 1 2\n1 leaf 3 ==>\n",
