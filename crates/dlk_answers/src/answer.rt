@@ -1,5 +1,6 @@
 // What the program answers to its words and inputs. It reads and writes nothing.
-ghost use Rattle.std.specs.Prelude.{◌≡◌, map, IfOk, option_copied, string_bytes, length, Some, IsTrue};
+ghost use Rattle.std.specs.Prelude.{◌≡◌, ◌≢◌, map, IfOk, option_copied, string_bytes, length, Some, IsTrue};
+ghost use Rattle.dlk_replies.specs.declared.form.Last.TheVariants.{Output};
 ghost use Rattle.dlk_replies.specs.Forms.{form_of, limit_of, ends_in, command_of};
 ghost use Rattle.dlk_replies.specs.Inputs.{first_too_long as first_too_long_of};
 ghost use Rattle.dlk_replies.specs.Replies.{refused_words};
@@ -60,14 +61,15 @@ fn first_too_long<'a>(names: &'a [String], roles: &[Role], inputs: &[Vec<u8>]) -
     first_too_long(names, roles, inputs)
 }
 
-/// The answer of a command to the words behind its inputs and to the inputs, each within its limit. How many inputs there are its form says.
-fn job<L: Ledger>(
+/// The answer of a command that writes no file.
+fn printing_job<L: Ledger>(
     alloc: Global,
     command: Command,
     others: &[String],
     inputs: &[Vec<u8>],
     steps: &mut Steps<L>,
 ) -> Result<Reply, NoReply>
+    requires form { (form_of command).last ≢ Some Output }
     requires words { IsTrue (ends_in (form_of command).last (map string_bytes others.now)) }
     requires inputs { length inputs.now ≡ length (form_of command).inputs }
     ensures reply { IfOk result (λ r. Does command (map string_bytes others.now) (texts_of inputs.now) (reply_of r)) }
@@ -94,12 +96,50 @@ fn job<L: Ledger>(
         (Command::Smt, [], [model, term]) => check(alloc, Showing::Exported, model, term, steps),
         (Command::Guard, [], [model, term]) => guard(alloc, model, term, steps),
         (Command::Gen, [count], []) => generated(alloc, count_of(count), steps),
+        _ => unreachable!(),
+    }
+}
+
+/// The answer of a command that writes a file.
+fn writing_job<L: Ledger>(
+    alloc: Global,
+    command: Command,
+    others: &[String],
+    inputs: &[Vec<u8>],
+    steps: &mut Steps<L>,
+) -> Result<Reply, NoReply>
+    requires form { (form_of command).last ≡ Some Output }
+    requires words { IsTrue (ends_in (form_of command).last (map string_bytes others.now)) }
+    requires inputs { length inputs.now ≡ length (form_of command).inputs }
+    ensures { IfOk result (λ r. Does command (map string_bytes others.now) (texts_of inputs.now) (reply_of r)) }
+{
+    match (command, others, inputs) {
         (Command::Prove, [_], [model, strategy]) => prove(alloc, model, strategy, steps),
         (Command::Convert, [_], [term]) => convert(alloc, term, steps),
         (Command::Link, [_], [model, term, lemma]) => link(alloc, model, term, lemma, steps),
         (Command::Trim, [_], [model, term]) => trim(alloc, model, term, steps),
         (Command::Session, [_], [model, script]) => session(alloc, model, script, steps),
         _ => unreachable!(),
+    }
+}
+
+/// The answer of a command to the words behind its inputs and to the inputs, each within its limit.
+fn job<L: Ledger>(
+    alloc: Global,
+    command: Command,
+    others: &[String],
+    inputs: &[Vec<u8>],
+    steps: &mut Steps<L>,
+) -> Result<Reply, NoReply>
+    requires words { IsTrue (ends_in (form_of command).last (map string_bytes others.now)) }
+    requires inputs { length inputs.now ≡ length (form_of command).inputs }
+    ensures reply { IfOk result (λ r. Does command (map string_bytes others.now) (texts_of inputs.now) (reply_of r)) }
+    ensures looks { CommandLooksAtFew command (texts_of inputs.now) steps.old steps.new }
+{
+    match command {
+        Command::Prove | Command::Convert | Command::Link | Command::Trim | Command::Session =>
+            writing_job(alloc, command, others, inputs, steps),
+        _ => printing_job(alloc, command, others, inputs, steps),
     }
 }
 
