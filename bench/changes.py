@@ -248,10 +248,13 @@ def refused(verb, status, printed, forms):
 
 
 def examples_in(desk):
-    """All examples with their texts. Where there is a strategy and no term, `prove` writes one."""
+    """All examples with their texts. Where there is a strategy and no term, `prove` writes one; a model may stand alone."""
     for model in sorted((TOP / "examples").rglob("model")):
         folder = model.parent
         texts = {part: (folder / part).read_bytes() for part in ("model", "strategy", "term") if (folder / part).exists()}
+        if len(texts) == 1:
+            yield Example(str(folder.relative_to(TOP / "examples")), texts)
+            continue
         if "term" not in texts:
             desk.prove(texts["model"], texts["strategy"])
             texts["term"] = (desk.folder / "proof").read_bytes()
