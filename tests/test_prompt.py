@@ -285,10 +285,10 @@ class Terminal(Case):
             os.kill(self.child, signal.SIGKILL)
             os.waitpid(self.child, 0)
 
-    def until(self, wanted):
-        """Reads until this text came."""
+    def until(self, *wanted):
+        """Reads until these texts came, one behind the other: what comes in one piece with the first would else be lost."""
         said, end = "", time.monotonic() + 100
-        while wanted not in said:
+        while not re.search(".*".join(map(re.escape, wanted)), said, re.DOTALL):
             self.assertLess(time.monotonic(), end, said)
             if select.select([self.terminal], [], [], 0.2)[0]:
                 said += re.sub(r"\x1b\[[0-9;?]*[A-Za-z]", "", os.read(self.terminal, 4096).decode()).replace("\r", "")
@@ -309,8 +309,7 @@ class Terminal(Case):
         self.write("\x03")
         self.until("1 goal>")
         self.write("implyR(1)\r")
-        self.until("1: x >= 0 & true")
-        self.until("1 goal>")
+        self.until("1: x >= 0 & true", "1 goal>")
         self.write('cut("tr\t')
         self.until('cut("true')
         self.write('")\r')
