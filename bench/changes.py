@@ -2,7 +2,7 @@
 """What the program answers to examples that were changed at random, always in the same way.
 
     python3 bench/changes.py                          10,000 terms with one byte changed, for `check`, in each version
-    python3 bench/changes.py --count N [--seed S] [--parts PART ..]
+    python3 bench/changes.py --count N [--seed S] [--parts PART ..] [--beside OTHER]
                                                       N changes of strategies, models and terms of every example, or of these parts
 
 With --count the examples are all folders of `examples/` that have a model, those of the gallery and of the tutorial too, and the models of
@@ -13,6 +13,9 @@ term that `prove` writes what `prove` said. The parts may be `script` and `lemma
 and saves, and what is saved must be a term of so many lines for `check`; a lemma is the term, which `link` puts into the place of the model's one goal, and
 `check` must say of the whole what `link` said. Where a changed term of version 2 isn't in the grammar, the first wrong line must be the one that
 src/dlkt/terms.py says, unless a line before it is no step of the calculus.
+
+With --beside each run is made by another program, too, as by that of an earlier state. It must end with the same status, and print and write the
+same bytes.
 
 Each answer must be one of those that `docs/FILES.md` and `docs/STRATEGIES.md` list, with its status, and nothing may be accepted with
 another conclusion than the model. Run it after `./dlk` has built the program; another one is named by DLK.
@@ -53,6 +56,8 @@ WHYS = "|".join(("WrongCount", "NoMatch", *REASONS))
 REPORTED = r"open|closed|(?:goals|leaves|lines) \d+|(?:conclusion|goal \d+|leaf \d+) .*"
 REPLY = re.compile(rf"ok goals \d+|fails at \d+: (?:{WHYS})|budget at \d+|no-goal|nothing|saved \d+|{REPORTED}")
 PARTS = ("strategy", "model", "term")
+# the commands whose last word names what they write
+WRITES = ("prove", "session", "link")
 PIECE = re.compile(rb"\w+|\s+|[^\w\s]")
 
 
@@ -141,10 +146,10 @@ class Fault(Exception):
 
 
 class Desk:
-    """A folder for the files of a run."""
+    """A folder for the files of a run, the other program that is run beside, where there is one, and how many runs were compared with its own."""
 
-    def __init__(self, folder):
-        self.folder = folder
+    def __init__(self, folder, beside=None):
+        self.folder, self.beside, self.compared = folder, beside, 0
 
     def file(self, name, text):
         """A file with this text."""
@@ -154,11 +159,31 @@ class Desk:
 
     def run(self, *words):
         """The status and the text that a run answers."""
+        status, printed = self.answer_of(PROGRAM, words)
+        if self.beside:
+            self.compare(words, (status, printed))
+        return status, printed.decode(errors="replace")
+
+    def answer_of(self, program, words):
+        """The status and the bytes that a run of a program answers."""
         try:
-            run = subprocess.run([PROGRAM, *words], capture_output=True, check=False, timeout=SECONDS)
+            run = subprocess.run([program, *words], capture_output=True, check=False, timeout=SECONDS)
         except subprocess.TimeoutExpired as late:
             raise Fault(f"{words[0]}: no answer in {SECONDS} seconds") from late
-        return run.returncode, run.stdout.decode(errors="replace")
+        return run.returncode, run.stdout
+
+    def compare(self, words, answer):
+        """Has the other program do the same, with a file of its own for what it writes."""
+        *inputs, last = words
+        own = self.folder / "beside" if words[0] in WRITES else last
+        if words[0] in WRITES:
+            own.unlink(missing_ok=True)
+        other = self.answer_of(self.beside, (*inputs, own))
+        if other != answer:
+            raise Fault(f"{words[0]}: status {answer[0]}, {answer[1][:200]!r}; the other program: status {other[0]}, {other[1][:200]!r}")
+        if words[0] in WRITES and written(own) != written(last):
+            raise Fault(f"{words[0]}: the other program writes another file")
+        self.compared += 1
 
     def conclusion(self, model):
         """The line of a report that has this model as conclusion, or none where it is no model."""
@@ -237,6 +262,11 @@ class Desk:
         return self.report_kind("link", status, printed, model)
 
 
+def written(path):
+    """What a run wrote, or nothing where it wrote no file."""
+    return path.read_bytes() if path.exists() else None
+
+
 def refused(verb, status, printed, forms):
     """A word for a refusal, which must have one of these forms."""
     for form in forms:
@@ -304,14 +334,17 @@ def answers_to(desk, part, texts):
         yield "link", desk.link(texts["model"], texts["lemma"])
 
 
-def change_all(count, seed, parts):
+def change_all(count, seed, parts, beside):
     """Changes a text of an example, so many times, and prints how often each command gave each answer. These parts of all examples have
-    their turns, one after another."""
+    their turns, one after another. Another program may be run beside."""
     chance = random.Random(seed)
     answers = collections.Counter()
     with tempfile.TemporaryDirectory() as name:
-        desk = Desk(pathlib.Path(name))
-        examples = list(examples_in(desk))
+        desk = Desk(pathlib.Path(name), beside)
+        try:
+            examples = list(examples_in(desk))
+        except Fault as fault:
+            raise SystemExit(f"changes.py: the examples as they are: {fault}") from fault
         turns = [(example, part) for part in parts for example in examples if part in example.texts]
         for k in range(count):
             example, part = turns[k % len(turns)]
@@ -322,6 +355,8 @@ def change_all(count, seed, parts):
             except Fault as fault:
                 raise SystemExit(f"changes.py: change {k}, {example.name}, {part}, {how}: {fault}") from fault
         print(f"{count} changes of {len(turns)} texts of {len(examples)} examples, seed {seed}")
+        if beside:
+            print(f"{desk.compared} runs beside {beside}: each with the same status, bytes and file")
     for kind, times in sorted(answers.items(), key=lambda one: (one[0].split(":")[0], -one[1])):
         print(f"{kind}: {times}")
 
@@ -333,15 +368,18 @@ def main():
     parser.add_argument("--seed", type=int, default=1, help="where the changes begin (1)")
     every = (*PARTS, "script", "lemma")
     parser.add_argument("--parts", nargs="+", choices=every, help="which texts are changed, with --count (strategy model term)")
+    parser.add_argument("--beside", metavar="OTHER", type=pathlib.Path, help="another program that must answer alike, with --count")
     options = parser.parse_args()
-    if options.parts and options.count is None:
-        parser.error("--parts wants --count")
+    if (options.parts or options.beside) and options.count is None:
+        parser.error("--parts and --beside want --count")
+    if options.beside and not options.beside.is_file():
+        parser.error(f"{options.beside}: no such program")
     if options.count is None:
         change_terms(1)
         if knows("convert"):
             change_terms(2)
     else:
-        change_all(options.count, options.seed, options.parts or PARTS)
+        change_all(options.count, options.seed, options.parts or PARTS, options.beside and options.beside.resolve())
 
 
 if __name__ == "__main__":

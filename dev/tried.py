@@ -4,7 +4,8 @@
     python3 dev/tried.py     exits 1 where a crate with wrong bodies changed since they were last tried
 
 A row of the file has a crate, how many wrong bodies it has, the day on which all of them were refused, and a sum of the crate's files then: those of
-`src` without tests, `specs` and `proofs`, and the wrong bodies of `must-fail` and `edits`, whichever of the two folders one stands in.
+`src` without tests, `specs` and `proofs`, and the wrong bodies of `must-fail` and `edits`, whichever of the two folders one stands in. Comments, the
+breaks of lines and the order of imports don't count: no verdict comes from them.
 `dev/edits.py NAME` writes the row of a crate when it has tried all of them and each was refused, and nothing else writes it. What a crate stands on
 has rows of its own.
 
@@ -14,6 +15,7 @@ named each time, and where it changes once more, it fails as any other.
 
 import argparse
 import hashlib
+import re
 import sys
 import time
 from pathlib import Path
@@ -24,6 +26,12 @@ FILE = TOP / "dev" / "tried.txt"
 PARTS = ("src", "specs", "proofs")
 FOLDERS = ("must-fail", "edits")
 OWED = "owed"
+# A text in quotes, or else a comment or blanks, by the ending of a file.
+PARTED = {
+    ".rt": re.compile(r"""b?"(?:\\.|[^"\\])*"|b?'(?:\\[^']+|[^'\\])'|((?://[^\n]*|\s)+)""", re.DOTALL),
+    ".antt": re.compile(r"""b?"(?:\\.|[^"\\])*"|((?:(?<!\S)--(?!\S)[^\n]*|\s)+)""", re.DOTALL),
+}
+IMPORT = re.compile(r"\b((?:pub )?(?:ghost )?use [\w:.]+)\{([^{}]*)\}(;?) ")
 HEAD = "# crate, wrong bodies, day on which all were refused, sum of the crate then: written by dev/edits.py, read by dev/tried.py"
 
 
@@ -46,12 +54,22 @@ def is_test(file: Path) -> bool:
     return file.name == "tests.rt" or "tests" in file.parts
 
 
+def words_of(file: Path) -> bytes:
+    """The text of a file without comments, with one blank where there are some, and an import for each name, in order, in the place of the first."""
+    parted = PARTED.get(file.suffix)
+    if parted is None:
+        return file.read_bytes()
+    text = parted.sub(lambda it: " " if it[1] else it[0], file.read_text(encoding="utf-8"))
+    imports = sorted(f"{it[1]}{name.strip()}{it[3]} " for it in IMPORT.finditer(text) for name in it[2].split(",") if name.strip())
+    return (" ".join(imports) + IMPORT.sub("", text)).strip().encode()
+
+
 def sum_of(crate: Path) -> str:
     """A sum of what the verdicts on a crate's wrong bodies come from, as far as it stands in the crate's folder."""
     whole = hashlib.sha256()
     files = sorted(it for part in PARTS for it in (crate / part).rglob("*") if it.is_file() and not is_test(it.relative_to(crate)))
     for name, file in [*((str(it.relative_to(crate)), it) for it in files), *((it.name, it) for it in bodies_of(crate))]:
-        text = file.read_bytes()
+        text = words_of(file)
         whole.update(f"{name} {len(text)}\n".encode() + text)
     return whole.hexdigest()[:32]
 

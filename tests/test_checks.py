@@ -122,6 +122,29 @@ class Tried(unittest.TestCase):
         (self.crate / "must-fail/one.edit").rename(self.crate / "edits/one.edit")
         self.assertEqual(self.changed(), [])
 
+    def test_comments_breaks_of_lines_and_the_order_of_imports_change_nothing(self) -> None:
+        self.write("src/lib.rt", "use a::{b, c};\n\n/// Says.\nfn it() -> u8 { f(b'\"', 1, \"a // b\") }\n")
+        known = tried.sum_of(self.crate)
+        self.write("src/lib.rt", "use a::{c};\nuse a::{b};\n// Another.\nfn it() -> u8 { f(b'\"', // why\n    1,\n \"a // b\") }\n")
+        self.assertEqual(tried.sum_of(self.crate), known)
+        for text in (
+            "use a::{b, d};\nfn it() -> u8 { f(b'\"', 1, \"a // b\") }",
+            "use a::{b, c};\nfn it() -> u8 { f(b'\"', 2, \"a // b\") }",
+            "use a::{b, c};\nfn it() -> u8 { f(b'\"', 1, \"a // c\") }",
+            "use a::{b, c};\nfn it() -> u8 { f(b'\"', 1, \"a  // b\") }",
+        ):
+            with self.subTest(text):
+                self.write("src/lib.rt", text)
+                self.assertNotEqual(tried.sum_of(self.crate), known)
+
+    def test_a_name_may_have_a_dash(self) -> None:
+        self.write("specs/It.antt", "-- why\nbe-that a = b")
+        known = tried.sum_of(self.crate)
+        self.write("specs/It.antt", "-- another\nbe-that a\n    = b")
+        self.assertEqual(tried.sum_of(self.crate), known)
+        self.write("specs/It.antt", "-- another\nbe-this a = b")
+        self.assertNotEqual(tried.sum_of(self.crate), known)
+
     def test_one_that_was_never_tried(self) -> None:
         self.file.unlink()
         self.assertEqual(tried.changed(self.top, self.file), ["it: its wrong bodies were never tried"])

@@ -23,6 +23,7 @@ echo "rt: low is kept: it was proved before"
 setsid bash -c 'echo $$ >> {mark}; sleep 100; true' >/dev/null 2>&1 &
 echo "rt: middle proved"
 echo "rt: middle: its tests are proved"
+rm -rf {mark}.copy; cp -R crates {mark}.copy
 {end}
 """
 WAITING = "wait"
@@ -48,6 +49,8 @@ class Launcher(Case):
             for part in ("src", "specs"):
                 (self.top / "crates" / name / part).mkdir(parents=True)
             (self.top / "crates" / name / "src" / "lib.rt").write_text("fn it() {}\n" * 100)
+            (self.top / "crates" / name / "src" / "tests.rt").write_text("fn it() {}\n")
+        (self.top / "crates" / "dlk" / "src" / "main.rt").write_text("mod call;\n\nfn main() {}\n\n#[cfg(test)]\nmod tests;\n")
         (self.top / "crates.txt").write_text("# crates\nlow:\nmiddle: low\naside: low\ndlk: middle\n")
         (self.top / "HANDLES").write_text("Handles allowed: none.\n")
         for name in ("dlk", "dlkt", "src", "man/dlk.1", "man/dlkt.1", "completions", "dev/zipped.py"):
@@ -100,6 +103,14 @@ class Building(Launcher):
         self.assertRegex(lines[3], r"^dlk: proved 2 of 3 crates, middle last, 1 left, .* left \(")
         self.assertRegex(lines[4], r"^dlk: proved 3 of 3 crates, dlk last, 0 left, less than a minute left \(")
         self.assertRegex(lines[5], r"^dlk: built \(")
+
+    def test_the_program_is_proved_without_its_own_tests(self) -> None:
+        with self.start(BUILDING, "print", "file") as run:
+            run.communicate(timeout=60)
+        copied = Path(f"{self.mark}.copy")
+        self.assertEqual((copied / "dlk/src/main.rt").read_text(), "mod call;\n\nfn main() {}\n")
+        self.assertEqual([it.name for it in sorted((copied / "dlk/src").iterdir())], ["lib.rt", "main.rt"])
+        self.assertEqual([it.name for it in sorted((copied / "low/src").iterdir())], ["lib.rt", "tests.rt"])
 
     def test_an_interrupt_ends_it_with_all_that_it_started(self) -> None:
         for number in (signal.SIGINT, signal.SIGTERM, signal.SIGHUP):

@@ -5,5 +5,6 @@ use Rattle.dlk_replies.specs.Forms.{Word}
 
 -- the bytes of all these files, each cut one byte past its limit, if each is there
 abbrev pub cut_bytes_of : Files → List Word → List ℕ → Option (List (List ℕ))
-cut_bytes_of files (name ∷ names) (limit ∷ limits) = option_and_then (λ bytes. option_map (λ others. take (limit + 1) bytes ∷ others) (cut_bytes_of files names limits)) (files name)
+cut_bytes_of files (name ∷ names) (limit ∷ limits) =
+    option_and_then (λ bytes. option_map (λ others. take (limit + 1) bytes ∷ others) (cut_bytes_of files names limits)) (files name)
 cut_bytes_of files _ _ = Some []

@@ -141,7 +141,8 @@ pub record Judges (layout : Layout) (term : List ℕ) (f : Tree) (status : ℕ) 
 
 abbrev pub JudgesTruly : List Word → ℕ → Outside → Outside → Type 0
 JudgesTruly words status old new =
-    (layout : Layout) (model term said : List ℕ) (f : Tree) → RunsCheck layout words old model term → length model ≤ limit_of Model → length term ≤ limit_of Term →
+    (layout : Layout) (model term said : List ℕ) (f : Tree) → RunsCheck layout words old model term → length model ≤ limit_of Model →
+    length term ≤ limit_of Term →
     ModelText model f → new.printed ≡ old.printed ++ said → Judges layout term f status said
 
 -- Model and term are within their limits, and `check` answers to them with this status and what is printed.

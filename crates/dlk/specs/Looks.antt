@@ -37,7 +37,8 @@ pub record RefusesShort (words : List Word) (files : Files) (e : Tree) (pairs : 
 -- where a refusal of what the pairs make is the answer, at most so many nodes were looked at, from the old count to the new one
 abbrev pub LooksAtFewFor : List Word → Files → ℕ → ℕ → Type 0
 LooksAtFewFor words files old new =
-    (e : Tree) (pairs : List Pair) (reply : Reply) → RunsSubst words files e pairs → RefusesResult reply → Answers words files reply → new ≤ old + subst_looks pairs e
+    (e : Tree) (pairs : List Pair) (reply : Reply) → RunsSubst words files e pairs → RefusesResult reply → Answers words files reply →
+    new ≤ old + subst_looks pairs e
 
 -- a refusal of what the pairs make is what was printed, with status 2
 abbrev pub PrintsNone : ℕ → Outside → Outside → Type 0

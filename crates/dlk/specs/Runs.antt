@@ -24,7 +24,8 @@ pub record AsksFor (tells : Type 0) (names : List Word) (limits : List ℕ) (cou
   pub within : count ≤ length names
   pub asked : new.asked ≡ old.asked ++ take count names
   pub none : tells → count ≡ 0 → new.left ≡ old.left
-  pub last : tells → (name : Word) (limit : ℕ) → At names count name → At limits count limit → IsSomeAnd (old.files name) (λ bytes. LosesAtMost (limit + 1) bytes new.left)
+  pub last : tells → (name : Word) (limit : ℕ) → At names count name → At limits count limit →
+      IsSomeAnd (old.files name) (λ bytes. LosesAtMost (limit + 1) bytes new.left)
 
 -- On every desk: what is asked for are the inputs of the words in their order, and with status 0, 1 or 2 all of them.
 pub record Asks (tells : Type 0) (words : List Word) (status : ℕ) (old new : Outside) : Type 0 where

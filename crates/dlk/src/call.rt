@@ -7,12 +7,12 @@ use dlk_replies::Command;
 
 /// The words of a command line, and the command that they call for: none where they have none of the forms.
 #[derive(Clone, Copy, Debug)]
-pub struct Call<'a> {
+pub struct CommandLine<'a> {
     pub words: &'a [String],
     pub command: Option<Command>,
 }
 
-impl<'a> Call<'a> {
+impl<'a> CommandLine<'a> {
     /// The name of the file that the words let the program write, if there is one.
     pub fn output(self) -> Option<&'a str>
         requires { self.command ≡ command_of (map string_bytes self.words.now) }

@@ -13,9 +13,12 @@ use dlk_transfer::{print_all, write_all};
 
 /// Writes the file of a reply, if there are a name and bytes for it.
 fn write_output<D: Desk>(desk: &mut D, name: Option<&str>, reply: &Reply) -> Result<(), Failed>
-    ensures whole { let output = output_with (option_copied name.entry) (reply_of reply.now).written in OnOk result (D.tells → SameFiles (after output (D.outside desk.old).files) (D.outside desk.new).files) }
-    ensures part { let output = output_with (option_copied name.entry) (reply_of reply.now).written in D.tells → WrittenInPart output (D.outside desk.old).files (D.outside desk.new).files }
-    ensures none { IsNone (output_with (option_copied name.entry) (reply_of reply.now).written) → StartsNoWrite D.tells (D.outside desk.old) (D.outside desk.new) }
+    ensures whole { let output = output_with (option_copied name.entry) (reply_of reply.now).written in
+        OnOk result (D.tells → SameFiles (after output (D.outside desk.old).files) (D.outside desk.new).files) }
+    ensures part { let output = output_with (option_copied name.entry) (reply_of reply.now).written in D.tells →
+        WrittenInPart output (D.outside desk.old).files (D.outside desk.new).files }
+    ensures none { IsNone (output_with (option_copied name.entry) (reply_of reply.now).written) →
+        StartsNoWrite D.tells (D.outside desk.old) (D.outside desk.new) }
     ensures silent { D.tells → (D.outside desk.new).printed ≡ (D.outside desk.old).printed }
     ensures quiet { (D.outside desk.new).print_faults ≡ (D.outside desk.old).print_faults }
     ensures fault { OnErr result (Rose (D.outside desk.old).write_faults (D.outside desk.new).write_faults) }
@@ -41,15 +44,18 @@ fn write_output<D: Desk>(desk: &mut D, name: Option<&str>, reply: &Reply) -> Res
 /// given. Where printing failed the file is whole.
 #[inline(never)]
 pub fn give<D: Desk>(desk: &mut D, name: Option<&str>, reply: &Reply) -> Result<(), Failed>
-    ensures file { let output = output_with (option_copied name.entry) (reply_of reply.now).written in OnOk result (D.tells → SameFiles (after output (D.outside desk.old).files) (D.outside desk.new).files) }
+    ensures file { let output = output_with (option_copied name.entry) (reply_of reply.now).written in
+        OnOk result (D.tells → SameFiles (after output (D.outside desk.old).files) (D.outside desk.new).files) }
     ensures printed { OnOk result (D.tells → (D.outside desk.new).printed ≡ (D.outside desk.old).printed ++ (reply_of reply.now).printed) }
-    ensures part { let output = output_with (option_copied name.entry) (reply_of reply.now).written in D.tells → WrittenInPart output (D.outside desk.old).files (D.outside desk.new).files }
+    ensures part { let output = output_with (option_copied name.entry) (reply_of reply.now).written in D.tells →
+        WrittenInPart output (D.outside desk.old).files (D.outside desk.new).files }
     ensures front { D.tells → GrowsByFront (reply_of reply.now).printed (D.outside desk.old).printed (D.outside desk.new).printed }
     ensures file_first { let output = output_with (option_copied name.entry) (reply_of reply.now).written in D.tells →
         SameFiles (after output (D.outside desk.old).files) (D.outside desk.new).files ⊎ ((D.outside desk.new).printed ≡ (D.outside desk.old).printed) }
     ensures file_kept { let output = output_with (option_copied name.entry) (reply_of reply.now).written in D.tells →
         SameFiles (after output (D.outside desk.old).files) (D.outside desk.new).files ⊎ OnlyWriteFailed (D.outside desk.old) (D.outside desk.new) }
-    ensures none { IsNone (output_with (option_copied name.entry) (reply_of reply.now).written) → StartsNoWrite D.tells (D.outside desk.old) (D.outside desk.new) }
+    ensures none { IsNone (output_with (option_copied name.entry) (reply_of reply.now).written) →
+        StartsNoWrite D.tells (D.outside desk.old) (D.outside desk.new) }
     ensures fault { OnErr result (Rose (D.outside desk.old).write_faults (D.outside desk.new).write_faults) }
     ensures only { OnlyWrites D.tells (D.outside desk.old) (D.outside desk.new) }
 {

@@ -8,7 +8,7 @@ ghost use Rattle.dlk.specs.Answers.{bytes_of, Answers};
 
 use dlk_answers::laws::{one_response, some_response};
 
-/// There is one answer to words and files.
+/// There is one answer to words and files. The statement of the program's answers asks for it.
 pub fn one_reply()
     ensures { (words : List Word) (files : Files) (one other : TheReply) → Answers words files one → Answers words files other → one ≡ other }
 {
@@ -16,6 +16,7 @@ pub fn one_reply()
 }
 
 /// Where each input is there, something is answered to words and files.
+/// The statement of the program's answers asks for it.
 pub fn some_reply()
     ensures { (words : List Word) (files : Files) → IsSome (bytes_of files (inputs words)) → (reply : TheReply) × Answers words files reply }
 {

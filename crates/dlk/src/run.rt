@@ -15,7 +15,7 @@ ghost use Rattle.dlk.specs.WrittenTerms.{ConvertsTruly, LinksTruly, TrimsTruly};
 ghost use Rattle.dlk.specs.Sessions.{SessionsTruly};
 ghost use Rattle.dlk.specs.Looks.{LooksAtFewFor, LooksAtFew};
 
-use crate::call::Call;
+use crate::call::CommandLine;
 use crate::fault::NoAnswer;
 use crate::give::give;
 use dlk_answers::{respond, words_refused};
@@ -48,7 +48,8 @@ fn read_inputs<D: Desk>(
     roles: &[Role],
 ) -> Result<Vec<Vec<u8>>, ReadError>
     requires { length names.now ≡ length roles.now }
-    ensures ok { IfOk result (λ inputs. D.tells → cut_bytes_of (D.outside desk.old).files (map string_bytes names.now) (map limit_of roles.now) ≡ Some (texts_of inputs.items)) }
+    ensures ok { IfOk result (λ inputs. D.tells →
+        cut_bytes_of (D.outside desk.old).files (map string_bytes names.now) (map limit_of roles.now) ≡ Some (texts_of inputs.items)) }
     ensures count { IfOk result (λ inputs. length inputs.items ≡ length names.now) }
     ensures all { OnOk result ((D.outside desk.new).asked ≡ (D.outside desk.old).asked ++ map string_bytes names.now) }
     ensures fault { IsErrOf result Fault → Rose (D.outside desk.old).read_faults (D.outside desk.new).read_faults }
@@ -66,7 +67,7 @@ fn read_inputs<D: Desk>(
 /// Reads the inputs of a call and answers.
 fn work<D: Desk, L: Ledger>(
     alloc: Global,
-    call: Call<'_>,
+    call: CommandLine<'_>,
     desk: &mut D,
     steps: &mut Steps<L>,
 ) -> Result<Reply, NoAnswer>
@@ -79,7 +80,8 @@ fn work<D: Desk, L: Ledger>(
     ensures missing { IfOk result (λ r. D.tells → HasInputs (map string_bytes call.entry.words.now) (D.outside desk.old)) }
     ensures fault { IsErrOf result NoAnswer.Fault → Rose (D.outside desk.old).read_faults (D.outside desk.new).read_faults }
     ensures all { OnOk result ((D.outside desk.new).asked ≡ (D.outside desk.old).asked ++ inputs_named (map string_bytes call.entry.words.now)) }
-    ensures asks { (count : ℕ) × AsksFor D.tells (inputs_named (map string_bytes call.entry.words.now)) (limits_named (map string_bytes call.entry.words.now)) count (D.outside desk.old) (D.outside desk.new) }
+    ensures asks { (count : ℕ) × AsksFor D.tells (inputs_named (map string_bytes call.entry.words.now))
+        (limits_named (map string_bytes call.entry.words.now)) count (D.outside desk.old) (D.outside desk.new) }
     ensures only { OnlyReads D.tells (D.outside desk.old) (D.outside desk.new) }
     ensures looks { D.tells → LooksAtFewFor (map string_bytes call.entry.words.now) (D.outside desk.old).files steps.old steps.new }
 {
@@ -133,9 +135,11 @@ pub fn run<D: Desk, L: Ledger>(
     // Where an input is missing: a read fault, or want of memory.
     ensures lacks { D.tells → (HasInputs (map string_bytes words.now) (D.outside desk.old) → ⊥) → (result ≡ 4) ⊎ (result ≡ 6) }
     // Where the inputs are there: the answer, or a fault, or want of memory. A file that was written whole stays so where printing fails.
-    ensures answered { D.tells → HasInputs (map string_bytes words.now) (D.outside desk.old) → Answered (map string_bytes words.now) result (D.outside desk.old) (D.outside desk.new) }
+    ensures answered { D.tells → HasInputs (map string_bytes words.now) (D.outside desk.old) →
+        Answered (map string_bytes words.now) result (D.outside desk.old) (D.outside desk.new) }
     // Where moreover neither count of faults rose: the answer, or want of memory.
-    ensures completes { D.tells → HasInputs (map string_bytes words.now) (D.outside desk.old) → Completes (map string_bytes words.now) result (D.outside desk.old) (D.outside desk.new) }
+    ensures completes { D.tells → HasInputs (map string_bytes words.now) (D.outside desk.old) →
+        Completes (map string_bytes words.now) result (D.outside desk.old) (D.outside desk.new) }
     // Where well-formed pairs make nothing, or a tree past a limit, few nodes were looked at.
     ensures looks { D.tells → LooksAtFew (map string_bytes words.now) result (D.outside desk.old) (D.outside desk.new) steps.old steps.new }
 {
@@ -145,7 +149,7 @@ pub fn run<D: Desk, L: Ledger>(
     trimmed_is_checked();
     session_is_checked();
     one_verdict();
-    let call = Call {
+    let call = CommandLine {
         words,
         command: Command::parse(words),
     };

@@ -3,8 +3,8 @@ use Rattle.std.proofs.Common.{◌≡◌, ℕ, List, [], ◌∷◌, length, Optio
 use Rattle.dlk_grammar.specs.Tokens.{value}
 use Rattle.dlk_replies.specs.declared.command.Command.{Command}
 use Rattle.dlk_replies.specs.declared.command.Command.TheVariants.{Check, Print, Vars, Subst, Report, Smt, Guard, Prove, Gen, Convert, Link, Trim, Session}
-use Rattle.dlk_replies.specs.declared.form.Last.{Last}
-use Rattle.dlk_replies.specs.declared.form.Last.TheVariants.{Output, Number}
+use Rattle.dlk_replies.specs.declared.form.LastWord.{LastWord}
+use Rattle.dlk_replies.specs.declared.form.LastWord.TheVariants.{Output, Number}
 use Rattle.dlk_replies.specs.declared.reply.Showing.TheVariants.{Reported, Exported}
 use Rattle.dlk_replies.specs.declared.reply.Layout.TheVariants.{Text, Json}
 use Rattle.dlk_replies.specs.Forms.{Word, form_of, command_of, inputs_of, others_of, limits_of, ends_in}
@@ -40,7 +40,7 @@ three_texts (a ∷ b ∷ []) count = absurd (omega (arith, count))
 three_texts (a ∷ b ∷ c ∷ []) count = (a, b, c, refl)
 three_texts (a ∷ b ∷ c ∷ d ∷ texts) count = absurd (omega (arith, count))
 
-one_other : (last : Last) (others : List Word) → IsTrue (ends_in (Some last) others) → (word : Word) × (others ≡ word ∷ [])
+one_other : (last : LastWord) (others : List Word) → IsTrue (ends_in (Some last) others) → (word : Word) × (others ≡ word ∷ [])
 one_other last [] ends = absurd cc
 one_other last (word ∷ []) ends = (word, refl)
 one_other last (word ∷ other ∷ words) ends = absurd cc

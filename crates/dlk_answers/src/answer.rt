@@ -1,6 +1,6 @@
 // What the program answers to its words and inputs. It reads and writes nothing.
 ghost use Rattle.std.specs.Prelude.{◌≡◌, ◌≢◌, map, IfOk, option_copied, string_bytes, length, Some, IsTrue};
-ghost use Rattle.dlk_replies.specs.declared.form.Last.TheVariants.{Output};
+ghost use Rattle.dlk_replies.specs.declared.form.LastWord.TheVariants.{Output};
 ghost use Rattle.dlk_replies.specs.Forms.{form_of, limit_of, ends_in, command_of};
 ghost use Rattle.dlk_replies.specs.Inputs.{first_too_long as first_too_long_of};
 ghost use Rattle.dlk_replies.specs.Replies.{refused_words};

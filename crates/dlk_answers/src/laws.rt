@@ -36,6 +36,7 @@ pub fn some_response()
 }
 
 /// A command answers with a status below 3, and a refusal writes no file.
+/// The statement of the program's answers asks for it.
 pub fn refusals_write_nothing()
     ensures status { (command : TheCommand) (words : List Word) (texts : List (List ℕ)) (reply : TheReply) →
         Responds command words texts reply → code_of reply.status < 3 }

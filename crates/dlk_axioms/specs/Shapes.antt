@@ -14,7 +14,7 @@ use Rattle.dlk_axioms.specs.declared.shape.Item.{Item}
 use Rattle.dlk_axioms.specs.declared.shape.Item.TheVariants.{Evolve, Const as Constant}
 use Rattle.dlk_axioms.specs.declared.shape.Label.{Label}
 use Rattle.dlk_axioms.specs.declared.shape.Label.TheVariants as label
-use Rattle.dlk_axioms.specs.declared.shape.Shape.{Shape, Leaf, One', Two'}
+use Rattle.dlk_axioms.specs.declared.shape.TreeShape.{TreeShape, Leaf, One', Two'}
 
 abbrev pub symbol : Kind → List ℕ → ℕ → Option (List ℕ) → Sym
 symbol kind name arity taboo = record { kind = kind; name = name; arity = arity; taboo = taboo }
@@ -66,7 +66,7 @@ operator_of label.Seq = op.Seq
 operator_of label.Loop = op.Loop
 
 -- an operator over the trees of what stands behind it
-abbrev pub tree_of : Shape → Tree
+abbrev pub tree_of : TreeShape → Tree
 tree_of (Leaf l) = node (operator_of l) no_kids
 tree_of (One' l at s) = node (operator_of l) (kid (tree_of s) no_kids)
 tree_of (Two' l at s also t) = node (operator_of l) (kid (tree_of s) (kid (tree_of t) no_kids))

@@ -9,7 +9,7 @@ ghost use Rattle.dlk_axioms.specs.Answers.{StandsAlone};
 ghost use Rattle.dlk_axioms.specs.Shapes.{operator_of, item_of, tree_of};
 
 use crate::names::name_of;
-use crate::shape::{Item, Label, Shape};
+use crate::shape::{Item, Label, TreeShape};
 use dlk_sequent::Sequent;
 use dlk_store::{Id, Store, StoreFault};
 use dlk_tree::{Items, Kind, Name, Num, OdeItem, Op, Sym, Var};
@@ -126,22 +126,26 @@ fn operator(alloc: Global, label: &Label) -> Result<Op, AllocError>
 }
 
 /// An id of the tree of a shape.
-pub(crate) fn make<S: Store>(alloc: Global, shape: &Shape, store: &mut S) -> Result<Id, StoreFault>
+pub(crate) fn make<S: Store>(
+    alloc: Global,
+    shape: &TreeShape,
+    store: &mut S,
+) -> Result<Id, StoreFault>
     requires { WellMade (tree_of shape.now) }
     ensures made { IfOk result (λ id. StandsFor (S.trees store.new) id (tree_of shape.now)) }
     ensures grows { S.grows store.old store.new }
 {
     match shape {
-        Shape::Leaf(label) => {
+        TreeShape::Leaf(label) => {
             let op = operator(alloc, label)?;
             store.make(alloc, op, &[])
         }
-        Shape::One(label, first) => {
+        TreeShape::One(label, first) => {
             let first = make(alloc, first, store)?;
             let op = operator(alloc, label)?;
             store.make(alloc, op, &[first])
         }
-        Shape::Two(label, first, second) => {
+        TreeShape::Two(label, first, second) => {
             let first = make(alloc, first, store)?;
             let second = make(alloc, second, store)?;
             let op = operator(alloc, label)?;
@@ -153,7 +157,7 @@ pub(crate) fn make<S: Store>(alloc: Global, shape: &Shape, store: &mut S) -> Res
 /// The sequent with the tree of a shape alone on the right.
 pub(crate) fn make_alone_right<S: Store>(
     alloc: Global,
-    shape: &Shape,
+    shape: &TreeShape,
     store: &mut S,
 ) -> Result<Sequent, StoreFault>
     requires { WellMade (tree_of shape.now) }

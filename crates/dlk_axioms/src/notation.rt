@@ -1,54 +1,54 @@
 //! Words for the trees of the axioms.
-use crate::shape::{Item, Label, Shape};
+use crate::shape::{Item, Label, TreeShape};
 
 // Terms:
-pub(crate) const X: Shape = Shape::Leaf(Label::Variable(b"x_"));
+pub(crate) const X: TreeShape = TreeShape::Leaf(Label::Variable(b"x_"));
 
-pub(crate) const Y: Shape = Shape::Leaf(Label::Variable(b"y_"));
+pub(crate) const Y: TreeShape = TreeShape::Leaf(Label::Variable(b"y_"));
 
-pub(crate) const T: Shape = Shape::Leaf(Label::Variable(b"t_"));
+pub(crate) const T: TreeShape = TreeShape::Leaf(Label::Variable(b"t_"));
 
-pub(crate) const S: Shape = Shape::Leaf(Label::Variable(b"s_"));
+pub(crate) const S: TreeShape = TreeShape::Leaf(Label::Variable(b"s_"));
 
-pub(crate) const X_PRIMED: Shape = Shape::Leaf(Label::Primed(b"x_"));
+pub(crate) const X_PRIMED: TreeShape = TreeShape::Leaf(Label::Primed(b"x_"));
 
-pub(crate) const NUMBER_0: Shape = Shape::Leaf(Label::Number(0));
+pub(crate) const NUMBER_0: TreeShape = TreeShape::Leaf(Label::Number(0));
 
-pub(crate) const NUMBER_1: Shape = Shape::Leaf(Label::Number(1));
+pub(crate) const NUMBER_1: TreeShape = TreeShape::Leaf(Label::Number(1));
 
-pub(crate) const NUMBER_2: Shape = Shape::Leaf(Label::Number(2));
+pub(crate) const NUMBER_2: TreeShape = TreeShape::Leaf(Label::Number(2));
 
 // f(||), g(||), a(|y_|) and b(|y_|):
-pub(crate) const F: Shape = Shape::Leaf(Label::UnitFun(b"f", None));
+pub(crate) const F: TreeShape = TreeShape::Leaf(Label::UnitFun(b"f", None));
 
-pub(crate) const G: Shape = Shape::Leaf(Label::UnitFun(b"g", None));
+pub(crate) const G: TreeShape = TreeShape::Leaf(Label::UnitFun(b"g", None));
 
-pub(crate) const A_BUT_Y: Shape = Shape::Leaf(Label::UnitFun(b"a", Some(b"y_")));
+pub(crate) const A_BUT_Y: TreeShape = TreeShape::Leaf(Label::UnitFun(b"a", Some(b"y_")));
 
-pub(crate) const B_BUT_Y: Shape = Shape::Leaf(Label::UnitFun(b"b", Some(b"y_")));
+pub(crate) const B_BUT_Y: TreeShape = TreeShape::Leaf(Label::UnitFun(b"b", Some(b"y_")));
 
 // f(), g(), c() and h(e):
-pub(crate) const F0: Shape = Shape::Leaf(Label::Apply(b"f", 0));
+pub(crate) const F0: TreeShape = TreeShape::Leaf(Label::Apply(b"f", 0));
 
-pub(crate) const G0: Shape = Shape::Leaf(Label::Apply(b"g", 0));
+pub(crate) const G0: TreeShape = TreeShape::Leaf(Label::Apply(b"g", 0));
 
-pub(crate) const C0: Shape = Shape::Leaf(Label::Apply(b"c", 0));
+pub(crate) const C0: TreeShape = TreeShape::Leaf(Label::Apply(b"c", 0));
 
 pub(crate) const H_OF: Label = Label::Apply(b"h", 1);
 
 // Formulas. p(||), q(||), r(||), p(|y_|) and q(|y_|):
-pub(crate) const P: Shape = Shape::Leaf(Label::UnitPred(b"p", None));
+pub(crate) const P: TreeShape = TreeShape::Leaf(Label::UnitPred(b"p", None));
 
-pub(crate) const Q: Shape = Shape::Leaf(Label::UnitPred(b"q", None));
+pub(crate) const Q: TreeShape = TreeShape::Leaf(Label::UnitPred(b"q", None));
 
-pub(crate) const R: Shape = Shape::Leaf(Label::UnitPred(b"r", None));
+pub(crate) const R: TreeShape = TreeShape::Leaf(Label::UnitPred(b"r", None));
 
-pub(crate) const P_BUT_Y: Shape = Shape::Leaf(Label::UnitPred(b"p", Some(b"y_")));
+pub(crate) const P_BUT_Y: TreeShape = TreeShape::Leaf(Label::UnitPred(b"p", Some(b"y_")));
 
-pub(crate) const Q_BUT_Y: Shape = Shape::Leaf(Label::UnitPred(b"q", Some(b"y_")));
+pub(crate) const Q_BUT_Y: TreeShape = TreeShape::Leaf(Label::UnitPred(b"q", Some(b"y_")));
 
 // p(), p(e), q(e) and C{e}:
-pub(crate) const P0: Shape = Shape::Leaf(Label::Holds(b"p", 0));
+pub(crate) const P0: TreeShape = TreeShape::Leaf(Label::Holds(b"p", 0));
 
 pub(crate) const P_OF: Label = Label::Holds(b"p", 1);
 
@@ -68,15 +68,15 @@ pub(crate) const EXISTS_X: Label = Label::Exists(b"x_");
 pub(crate) const EXISTS_Y: Label = Label::Exists(b"y_");
 
 // Programs:
-pub(crate) const A: Shape = Shape::Leaf(Label::Const(b"a"));
+pub(crate) const A: TreeShape = TreeShape::Leaf(Label::Const(b"a"));
 
-pub(crate) const B: Shape = Shape::Leaf(Label::Const(b"b"));
+pub(crate) const B: TreeShape = TreeShape::Leaf(Label::Const(b"b"));
 
 pub(crate) const ASSIGN_X: Label = Label::Assign(b"x_");
 
 pub(crate) const ASSIGN_X_PRIMED: Label = Label::AssignPrimed(b"x_");
 
-pub(crate) const ANY_X: Shape = Shape::Leaf(Label::Any(b"x_"));
+pub(crate) const ANY_X: TreeShape = TreeShape::Leaf(Label::Any(b"x_"));
 
 // The items of systems, and systems by them:
 const EVOLVE_X: Item = Item::Evolve(b"x_");

@@ -2,10 +2,10 @@
 
 /// A tree whose operators have at most two kids.
 #[derive(Clone, Copy)]
-pub(crate) enum Shape {
+pub(crate) enum TreeShape {
     Leaf(Label),
-    One(Label, &'static Shape),
-    Two(Label, &'static Shape, &'static Shape),
+    One(Label, &'static TreeShape),
+    Two(Label, &'static TreeShape, &'static TreeShape),
 }
 
 /// An operator with its parts.

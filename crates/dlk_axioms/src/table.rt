@@ -4,8 +4,8 @@ use crate::shape::Label::{
     Add, And, Box, Choice, Dia, Diff, DiffF, Div, Eq, Equiv, Ge, Gt, Imply, Le, Loop, Lt, Mul, Ne,
     Neg, Not, Or, Pow, Seq, Sub, Test,
 };
-use crate::shape::Shape;
-use crate::shape::Shape::{One, Two};
+use crate::shape::TreeShape;
+use crate::shape::TreeShape::{One, Two};
 use dlk_calculus::AxiomForm;
 
 /// An axiom as the table has it.
@@ -13,14 +13,14 @@ pub(crate) struct AxiomRow {
     pub name: &'static [u8],
     pub form: AxiomForm,
     pub own_names: &'static [&'static [u8]],
-    pub formula: &'static Shape,
+    pub formula: &'static TreeShape,
 }
 
 /// An axiomatic rule as the table has it.
 pub(crate) struct RuleRow {
     pub name: &'static [u8],
-    pub premise: &'static Shape,
-    pub conclusion: &'static Shape,
+    pub premise: &'static TreeShape,
+    pub conclusion: &'static TreeShape,
 }
 
 /// Diamonds, and boxes of assignments.

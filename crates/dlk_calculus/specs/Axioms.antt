@@ -64,19 +64,26 @@ ode_axioms =
     -- [{c&q(||)}]p(||) <-> [{c&q(||)}](q(||) -> p(||))
     says (codes "DWeq") E [] (equiv (box (system (c_item ∷ []) [] q) p) (box (system (c_item ∷ []) [] q) (imply q p))) ∷
     -- [{c&q(||)}]r(||) -> ([{c&q(||)}]p(||) <-> [{c&q(||)&r(||)}]p(||))
-    says (codes "DC") C [] (imply (box (system (c_item ∷ []) [] q) r) (equiv (box (system (c_item ∷ []) [] q) p) (box (system (c_item ∷ []) [] (conj q r)) p))) ∷
+    says (codes "DC") C []
+    (imply (box (system (c_item ∷ []) [] q) r) (equiv (box (system (c_item ∷ []) [] q) p) (box (system (c_item ∷ []) [] (conj q r)) p))) ∷
     -- [{x_'=f(||)&q(||)}]p(||) <-> [{x_'=f(||)&q(||)}][x_':=f(||);]p(||)
     says (codes "DE") E (x_ ∷ []) (equiv (box (system (evolve x_ ∷ []) (f ∷ []) q) p) (box (system (evolve x_ ∷ []) (f ∷ []) q) (box (assign_primed x_ f) p))) ∷
     -- [{x_'=f(||),c&q(||)}]p(||) <-> [{c,x_'=f(||)&q(||)}][x_':=f(||);]p(||)
-    says (codes "DEsys") E (x_ ∷ []) (equiv (box (system (evolve x_ ∷ c_item ∷ []) (f ∷ []) q) p) (box (system (c_item ∷ evolve x_ ∷ []) (f ∷ []) q) (box (assign_primed x_ f) p))) ∷
+    says (codes "DEsys") E (x_ ∷ [])
+    (equiv (box (system (evolve x_ ∷ c_item ∷ []) (f ∷ []) q) p) (box (system (c_item ∷ evolve x_ ∷ []) (f ∷ []) q) (box (assign_primed x_ f) p))) ∷
     -- [{c,d&q(||)}]p(||) <-> [{d,c&q(||)}]p(||)
     says (codes "ODEswap") E [] (equiv (box (system (c_item ∷ d_item ∷ []) [] q) p) (box (system (d_item ∷ c_item ∷ []) [] q) p)) ∷
     -- (q(||) -> [{c&q(||)}](p(||))') -> ([{c&q(||)}]p(||) <-> [?q(||);]p(||))
     says (codes "DI") C [] (imply (imply q (box (system (c_item ∷ []) [] q) (diff_formula p))) (equiv (box (system (c_item ∷ []) [] q) p) (box (test q) p))) ∷
     -- [{c{|y_|}&q(|y_|)}]p(|y_|) <-> \exists y_ [{c{|y_|},y_'=a(|y_|)*y_+b(|y_|)&q(|y_|)}]p(|y_|)
-    says (codes "DG") E (y_ ∷ []) (equiv (box (system (c_item_but_y ∷ []) [] q_but_y) p_but_y) (exists y_ (box (system (c_item_but_y ∷ evolve y_ ∷ []) ((add (mul a_but_y y) b_but_y) ∷ []) q_but_y) p_but_y))) ∷
+    says (codes "DG") E (y_ ∷ [])
+    (equiv (box (system (c_item_but_y ∷ []) [] q_but_y) p_but_y)
+    (exists y_ (box (system (c_item_but_y ∷ evolve y_ ∷ []) ((add (mul a_but_y y) b_but_y) ∷ []) q_but_y) p_but_y))) ∷
     -- [{x_'=f()&q(x_)}]p(x_) <-> \forall t_ (t_>=0 -> ((\forall s_ (0<=s_&s_<=t_ -> q(x_+f()*s_))) -> [x_:=x_+f()*t_;]p(x_)))
-    says (codes "DS") E (x_ ∷ t_ ∷ s_ ∷ []) (equiv (box (system (evolve x_ ∷ []) (f0 ∷ []) (q_of x)) (p_of x)) (forall t_ (imply (ge t (number 0)) (imply (forall s_ (imply (conj (le (number 0) s) (le s t)) (q_of (add x (mul f0 s))))) (box (assign x_ (add x (mul f0 t))) (p_of x)))))) ∷
+    says (codes "DS") E (x_ ∷ t_ ∷ s_ ∷ [])
+    (equiv (box (system (evolve x_ ∷ []) (f0 ∷ []) (q_of x)) (p_of x))
+    (forall t_ (imply (ge t (number 0)) (imply (forall s_ (imply (conj (le (number 0) s) (le s t)) (q_of (add x (mul f0 s)))))
+    (box (assign x_ (add x (mul f0 t))) (p_of x)))))) ∷
     []
 
 -- Differentials:

@@ -281,7 +281,11 @@ p_gives : Subst p_positive (holds p) (positive x)
 p_gives = (
   no_kids,
   tt,
-  (two x (number 0), ((no_kids, tt, (none_clear [] no_kids, refl)), ((no_kids, tt, (none_clear [] no_kids, refl)), tt)), (none_clear [] (two x (number 0)), refl)),
+  (
+    two x (number 0),
+    ((no_kids, tt, (none_clear [] no_kids, refl)), ((no_kids, tt, (none_clear [] no_kids, refl)), tt)),
+    (none_clear [] (two x (number 0)), refl),
+  ),
   x_positive,
 )
 
@@ -322,10 +326,15 @@ abbrev after_a : Tree
 after_a = node Op'.Box (two (leaf (Op'.Const a)) (holds p))
 
 module _ (b : Tree) (binds_x : bound b (plain (codes "x")) ≡ true) where
-  x_clashes : (new : Forest) → SubstAll (both_pairs b) (two (leaf (Op'.Const a)) (holds p)) new → IsAdmissible (both_pairs b) (bound (first new)) (one (holds p)) → ⊥
+  x_clashes : (new : Forest) → SubstAll (both_pairs b) (two (leaf (Op'.Const a)) (holds p)) new →
+      IsAdmissible (both_pairs b) (bound (first new)) (one (holds p)) → ⊥
   x_clashes no_kids all admissible = all
   x_clashes (kid made rest) all admissible =
-      admissible 0 (to a b) (lit< tt) refl (plain (codes "x"), refl, subst (λ t. IsTrue (both (bound t) (free (positive x)) (plain (codes "x")))) (sym all.0.2) (ap (λ c. c && true) binds_x))
+      admissible 0 (to a b) (lit< tt) refl (
+        plain (codes "x"),
+        refl,
+        subst (λ t. IsTrue (both (bound t) (free (positive x)) (plain (codes "x")))) (sym all.0.2) (ap (λ c. c && true) binds_x),
+      )
 
   clashes : (new : Forest) → SubstAll (both_pairs b) (two (holds p) after_a) new → ⊥
   clashes no_kids all = all

@@ -20,7 +20,7 @@ ghost use Rattle.dlk_calculus.specs.Limits.{most_rows};
 ghost use Rattle.dlk_calculus.specs.Limited.{IsLimited};
 ghost use Rattle.dlk_calculus.specs.Steps.{Step, IsProper, Gives, IsWithin, Against, History, Derives, Fault, StepOf};
 
-/// A replacement has at most one result with given arguments.
+/// A replacement has at most one result with given arguments. The statement of substitution asks for it.
 pub fn one_plug()
     ensures { (args : List Tree) (r s t : Tree) → Plug args r s → Plug args r t → s ≡ t }
 {}
@@ -40,7 +40,8 @@ pub fn plug_is_itself()
 pub fn put_is_there()
     ensures there { (e : Tree) (path : List ℕ) (s new : Tree) → subtree e path ≡ Some s → subtree (put_at e path new) path ≡ Some new }
     ensures itself { (e : Tree) (path : List ℕ) (s : Tree) → subtree e path ≡ Some s → put_at e path s ≡ e }
-    ensures made { (e : Tree) (path : List ℕ) (s new : Tree) → WellMade e → WellMade new → subtree e path ≡ Some s → sort new ≡ sort s → WellMade (put_at e path new) }
+    ensures made { (e : Tree) (path : List ℕ) (s new : Tree) → WellMade e → WellMade new → subtree e path ≡ Some s → sort new ≡ sort s →
+        WellMade (put_at e path new) }
     ensures sort { (e : Tree) (path : List ℕ) (s new : Tree) → subtree e path ≡ Some s → sort new ≡ sort s → sort (put_at e path new) ≡ sort e }
 {}
 
@@ -54,7 +55,8 @@ pub fn put_is_filled()
 /// A path that leads on from a subtree leads to the subtree of that one, and what is put there is put into that one.
 pub fn paths_join()
     ensures subtree { (e : Tree) (outer inner : List ℕ) (d : Tree) → subtree e outer ≡ Some d → subtree e (outer ++ inner) ≡ subtree d inner }
-    ensures put { (e : Tree) (outer inner : List ℕ) (d new : Tree) → subtree e outer ≡ Some d → put_at e (outer ++ inner) new ≡ put_at e outer (put_at d inner new) }
+    ensures put { (e : Tree) (outer inner : List ℕ) (d new : Tree) → subtree e outer ≡ Some d →
+        put_at e (outer ++ inner) new ≡ put_at e outer (put_at d inner new) }
     ensures way { (e : Tree) (outer inner : List ℕ) (s : Tree) → subtree e (outer ++ inner) ≡ Some s → (d : Tree) × (subtree e outer ≡ Some d) }
 {}
 
@@ -67,17 +69,19 @@ pub fn subtrees_keep()
 /// At most one formula is the smallest round a subtree. One is, where the whole tree is a formula.
 pub fn one_innermost()
     ensures one { (e : Tree) (path a b c d : List ℕ) (f g : Tree) → IsInnermost e path a b f → IsInnermost e path c d g → (a ≡ c) × (b ≡ d) × (f ≡ g) }
-    ensures some { (e : Tree) (path : List ℕ) (s : Tree) → sort e ≡ Formula → subtree e path ≡ Some s → (outer : List ℕ) × (inner : List ℕ) × (f : Tree) × IsInnermost e path outer inner f }
+    ensures some { (e : Tree) (path : List ℕ) (s : Tree) → sort e ≡ Formula → subtree e path ≡ Some s →
+        (outer : List ℕ) × (inner : List ℕ) × (f : Tree) × IsInnermost e path outer inner f }
 {}
 
 /// Pairs are well formed, or there is a first bad one, with one reason against it.
+/// The statement of substitution asks for it.
 pub fn one_first_ill()
     ensures one { (pairs : List Pair) (m n : ℕ) (why other : TheWhy) → FirstIll pairs m why → FirstIll pairs n other → (m ≡ n) × (why ≡ other) }
     ensures some { (pairs : List Pair) → IsWellFormed pairs ⊎ ((n : ℕ) × (why : TheWhy) × FirstIll pairs n why) }
     ensures not_both { (pairs : List Pair) (n : ℕ) (why : TheWhy) → IsWellFormed pairs → FirstIll pairs n why → ⊥ }
 {}
 
-/// A substitution makes at most one tree of a tree.
+/// A substitution makes at most one tree of a tree. The statement of substitution asks for it.
 pub fn one_subst()
     ensures { (pairs : List Pair) (e s t : Tree) → Subst pairs e s → Subst pairs e t → s ≡ t }
 {}
@@ -88,24 +92,25 @@ pub fn subst_keeps_sort()
 {}
 
 /// What a substitution whose pairs are well formed makes of a formula is a formula: well made, of that sort, and without
-/// argument dots and `_`.
+/// argument dots and `_`. The statement of substitution asks for it.
 pub fn subst_keeps_formulas()
     ensures { (pairs : List Pair) → IsWellFormed pairs → (e t : Tree) → IsFormula e → Subst pairs e t → IsFormula t }
 {}
 
 /// A substitution makes a tree of a tree, or it makes none of it: which of both is decided.
+/// The statement of substitution asks for it.
 pub fn subst_decided()
     ensures { (pairs : List Pair) (e : Tree) → ((t : Tree) × Subst pairs e t) ⊎ ((t : Tree) → Subst pairs e t → ⊥) }
 {}
 
 /// A formula binds outermost at most one variable that can have another name, over one formula, and with the other name it is
-/// one formula.
+/// one formula. The statement of renaming asks for it.
 pub fn one_renamed()
     ensures { (y : List ℕ) (t : Tree) (p q : Bound) → RenamesBound p.x y p.f t p.g → RenamesBound q.x y q.f t q.g → p ≡ q }
 {}
 
 /// A formula binds such a variable, or it binds none: which of both is decided. Where it binds one, there is a result with each
-/// name.
+/// name. The statement of renaming asks for it.
 pub fn renamed_decided()
     ensures decided { (y : List ℕ) (t : Tree) → ((p : Bound) × RenamesBound p.x y p.f t p.g) ⊎ ((p : Bound) → RenamesBound p.x y p.f t p.g → ⊥) }
     ensures another { (x y z : List ℕ) (f t u : Tree) → RenamesBound x y f t u → (v : Tree) × RenamesBound x z f t v }
@@ -126,7 +131,8 @@ pub fn one_fault()
 pub fn given_unless_against()
     ensures given { (rows : List Provable) (step : Step) (p : Provable) (why : TheReason) → IsOfCalculus why → Gives rows step p → Against rows step why → ⊥ }
     ensures against { (rows : List Provable) (step : Step) → IsProper step → ((p : Provable) × StepOf rows step p) ⊎ ((why : TheReason) × Fault rows step why) }
-    ensures limits { (rows : List Provable) (step : Step) (why : TheReason) → IsProper step → (IsOfCalculus why → ⊥) → Fault rows step why → (p : Provable) × Gives rows step p }
+    ensures limits { (rows : List Provable) (step : Step) (why : TheReason) → IsProper step → (IsOfCalculus why → ⊥) → Fault rows step why →
+        (p : Provable) × Gives rows step p }
 {}
 
 /// A step is taken exactly where a rule of the calculus gives something, all of it is within the limits, and there are fewer rows
@@ -136,11 +142,13 @@ pub fn taken_as_given()
 {}
 
 /// If no reason of the calculus speaks against a proper step, a rule of the calculus gives something.
+/// The statement of the calculus asks for it.
 pub fn given_without_reason()
-    ensures { (rows : List Provable) (step : Step) → IsProper step → ((why : TheReason) → IsOfCalculus why → Against rows step why → ⊥) → (p : Provable) × Gives rows step p }
+    ensures { (rows : List Provable) (step : Step) → IsProper step → ((why : TheReason) → IsOfCalculus why → Against rows step why → ⊥) →
+        (p : Provable) × Gives rows step p }
 {}
 
-/// What is taken from rows within the limits is within them.
+/// What is taken from rows within the limits is within them. The statement of the kernel's rows asks for it.
 pub fn steps_keep_limits()
     ensures { (rows : List Provable) (step : Step) (p : Provable) → All IsLimited rows → StepOf rows step p → IsLimited p }
 {}
@@ -157,6 +165,7 @@ pub fn derived_formulas()
 {}
 
 /// The leaves of what is derived are sequents of arithmetic, and none stands twice.
+/// The statement of the calculus asks for it.
 pub fn derived_leaves()
     ensures { (p : Provable) → Derives p → HasLeaves p }
 {}

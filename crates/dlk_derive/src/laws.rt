@@ -13,7 +13,7 @@ ghost use Rattle.dlk_derive.specs.Rewriting.{Rewrites, conditions, Within, IsNea
 
 use dlk_calculus::laws::{paths_join, put_is_there};
 
-/// A `( )'` stands for at most one derivative.
+/// A `( )'` stands for at most one derivative. The statement of derivatives asks for it.
 pub fn one_derivative()
     ensures { (t c d : Tree) → IsDerivative t c → IsDerivative t d → c ≡ d }
 {}
@@ -33,11 +33,12 @@ pub fn some_plan()
 /// Each use of a plan, at whatever byte, is an atom with the arguments that its name wants, and the names among them are names.
 pub fn plan_is_fitting()
     ensures fitting { (byte : ℕ) (place : Place) (call : Call) → IsFitting (use_of byte place call) }
-    ensures names { (there : Option Tree) (path : List ℕ) (calls : List Call) → Plans there path calls → (byte : ℕ) (place : Place) → All HasNames (map (use_of byte place) calls) }
+    ensures names { (there : Option Tree) (path : List ℕ) (calls : List Call) → Plans there path calls → (byte : ℕ) (place : Place) →
+        All HasNames (map (use_of byte place) calls) }
 {}
 
 /// The plan of a `( )'` makes its derivative of it, for a tree of at most 149 nodes: each use has the `( )'` of its axiom where it acts,
-/// and the trees on the way are small.
+/// and the trees on the way are small. The statement of derivatives asks for it.
 pub fn plan_rewrites()
     ensures terms { (e d : Tree) → OfTerm e d → size e ≤ 149 → Rewrites (Within (size e)) IsPlainWay (plan e) (diff e) d (conditions e) }
     ensures formulas { (e d : Tree) → OfFormula e d → size e ≤ 149 → Rewrites (Within (size e)) IsUsable (plan e) (diff_formula e) d (conditions e) }
@@ -48,8 +49,10 @@ pub fn plan_rewrites()
 
 /// The same in its place in a tree: each use stands where it may be used.
 pub fn plan_rewrites_in_place()
-    ensures terms { (e k d : Tree) (path : List ℕ) → IsTermPlace e path (diff k) → OfTerm k d → size k ≤ 149 → Rewrites (IsNear e (size k)) IsUsable (plan_at k path) e (put_at e path d) (conditions k) }
-    ensures formulas { (e k d : Tree) (path : List ℕ) → subtree e path ≡ Some (diff_formula k) → OfFormula k d → size k ≤ 149 → Rewrites (IsNear e (size k)) IsUsable (plan_at k path) e (put_at e path d) (conditions k) }
+    ensures terms { (e k d : Tree) (path : List ℕ) → IsTermPlace e path (diff k) → OfTerm k d → size k ≤ 149 →
+        Rewrites (IsNear e (size k)) IsUsable (plan_at k path) e (put_at e path d) (conditions k) }
+    ensures formulas { (e k d : Tree) (path : List ℕ) → subtree e path ≡ Some (diff_formula k) → OfFormula k d → size k ≤ 149 →
+        Rewrites (IsNear e (size k)) IsUsable (plan_at k path) e (put_at e path d) (conditions k) }
 {
     put_is_there();
     paths_join();

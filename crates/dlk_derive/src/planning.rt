@@ -32,7 +32,8 @@ fn tree_at<S: Store, L: Ledger>(
     steps: &mut Steps<L>,
 ) -> Option<Id>
     requires { IsKnown (S.trees store.now) s.now }
-    ensures found { MatchOption result (NoPlan (formula_at (sequent_at (S.trees store.now) s.now) place) path.now NoPlace) (IsTreeAt (S.trees store.now) s.now place path.now) }
+    ensures found { MatchOption result (NoPlan (formula_at (sequent_at (S.trees store.now) s.now) place) path.now NoPlace)
+        (IsTreeAt (S.trees store.now) s.now place path.now) }
     ensures cost { steps.new ≤ steps.old + length path.now }
 {
     let Some(formula) = formula_at(s, place) else {
@@ -108,7 +109,8 @@ pub fn plan<S: Store, L: Ledger>(
     steps: &mut Steps<L>,
 ) -> Result<Vec<Atom>, DeriveFault>
     requires { IsKnown (S.trees store.now) s.now }
-    ensures plan { IfOk result (λ atoms. (calls : List Call) × Plans (formula_at (sequent_at (S.trees store.now) s.now) place) path.now calls × ((trees : List Tree) → map (atom_at trees) atoms.items ≡ map (use_of 0 place) calls)) }
+    ensures plan { IfOk result (λ atoms. (calls : List Call) × Plans (formula_at (sequent_at (S.trees store.now) s.now) place) path.now calls ×
+        ((trees : List Tree) → map (atom_at trees) atoms.items ≡ map (use_of 0 place) calls)) }
     ensures known { IfOk result (λ atoms. (trees : List Tree) → All (AtomIsKnown trees) atoms.items) }
     ensures fault { IfErr result (IsDeriveFaultOf (NoPlan (formula_at (sequent_at (S.trees store.now) s.now) place) path.now)) }
     ensures memory { result ≡ Err Memory → (calls : List Call) × Plans (formula_at (sequent_at (S.trees store.now) s.now) place) path.now calls }

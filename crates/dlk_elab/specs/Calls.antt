@@ -51,7 +51,8 @@ pub record IsUseCall (direction : Direction) (args : List Arg) (u : UseCall) : T
 -- no use has these arguments
 abbrev pub HasNoUse : List Arg → Type 0
 HasNoUse args =
-    (y : List ℕ) (place : Place) (path : List ℕ) → (args ≢ arg.Word y ∷ arg.At place path ∷ []) × ((extra : Extra) → args ≢ arg.Word y ∷ arg.At place path ∷ arg.With extra ∷ [])
+    (y : List ℕ) (place : Place) (path : List ℕ) →
+    (args ≢ arg.Word y ∷ arg.At place path ∷ []) × ((extra : Extra) → args ≢ arg.Word y ∷ arg.At place path ∷ arg.With extra ∷ [])
 
 abbrev pub GivenIsKnown : List Tree → Option Extra → Type 0
 GivenIsKnown trees None = Unit {0}

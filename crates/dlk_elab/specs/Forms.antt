@@ -49,7 +49,8 @@ exchange_rules spot (Succ j) Backwards new =
 exchange_rules spot (Ante i) Forwards new =
     (spot.goal, rule.CutL i new) ∷ (spot.goal + 1, rule.CoHideR (spot.right + 1)) ∷ (spot.goal + 1, rule.EquivifyR 1) ∷ []
 exchange_rules spot (Ante i) Backwards new =
-    (spot.goal, rule.CutL i new) ∷ (spot.goal + 1, rule.CoHideR (spot.right + 1)) ∷ (spot.goal + 1, rule.EquivifyR 1) ∷ (spot.goal + 1, rule.CommuteEquivR 1) ∷ []
+    (spot.goal, rule.CutL i new) ∷ (spot.goal + 1, rule.CoHideR (spot.right + 1)) ∷ (spot.goal + 1, rule.EquivifyR 1) ∷
+    (spot.goal + 1, rule.CommuteEquivR 1) ∷ []
 
 -- the steps by which a context of equivalent formulas is equivalent
 abbrev pub contextual : ℕ → Exchanged → List Step

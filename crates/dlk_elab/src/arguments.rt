@@ -67,7 +67,8 @@ pub(crate) fn rule_arguments(
     ensures found { IfOk result (λ a. (trees : List Tree) → AreFor (side_of rule) (map (argument_at trees) args.now) (arguments_at (λ y. y) trees a)) }
     ensures shape { IfOk result (λ a. shape_in a ≡ wanted rule) }
     ensures known { IfOk result (λ a. (trees : List Tree) → All (ArgumentIsKnown trees) args.now → ArgumentsAreKnown trees a) }
-    ensures fault { IfErr result (IsTacFault (λ why. (why ≡ NoPlace) × ((trees : List Tree) → HasNone (wanted rule) (side_of rule) (map (argument_at trees) args.now)))) }
+    ensures fault { IfErr result (IsTacFault (λ why. (why ≡ NoPlace) ×
+        ((trees : List Tree) → HasNone (wanted rule) (side_of rule) (map (argument_at trees) args.now)))) }
     ensures memory { result ≡ Err Memory → (trees : List Tree) → HasSome (wanted rule) (side_of rule) (map (argument_at trees) args.now) }
 {
     let side = rule.side();

@@ -45,7 +45,8 @@ struct Parts {
 fn on_the_right(s: &Sequent, arg: &Arg) -> Result<(u32, Id), TacFault>
     ensures place { IfOk result (λ p. (trees : List Tree) → argument_at trees arg.now ≡ AtPlace (Place.Succ p.0) []) }
     ensures stands { IfOk result (λ p. At s.now.succ p.0 p.1) }
-    ensures fault { IfErr result (IsTacFault (λ why. (why ≡ NoPlace) × ((trees : List Tree) (j : ℕ) (e : Tree) → ¬ IsOnTheRight (sequent_at trees s.now) (argument_at trees arg.now) j e))) }
+    ensures fault { IfErr result (IsTacFault (λ why. (why ≡ NoPlace) ×
+        ((trees : List Tree) (j : ℕ) (e : Tree) → ¬ IsOnTheRight (sequent_at trees s.now) (argument_at trees arg.now) j e))) }
     ensures decides { IfErr result (λ why. why ≢ Memory) }
 {
     let Arg::At { place, path } = arg else {
@@ -117,7 +118,8 @@ pub(crate) fn generalizing(
     boxed: Boxed,
 ) -> Result<Vec<Step>, AllocError>
     requires { target.rows < 2 ^ 31 }
-    ensures { IfOk result (λ steps. (trees : List Tree) (s : TreeSequent) → IsId trees boxed.program → IsId trees boxed.formula → ArePlanned trees steps.items (generalizing target.rows (goal_at target s) boxed.place (tree trees boxed.program) (tree trees boxed.formula))) }
+    ensures { IfOk result (λ steps. (trees : List Tree) (s : TreeSequent) → IsId trees boxed.program → IsId trees boxed.formula →
+        ArePlanned trees steps.items (generalizing target.rows (goal_at target s) boxed.place (tree trees boxed.program) (tree trees boxed.formula))) }
 {
     let now = target.rows;
     let rule = name_of(alloc, b"G")?;
@@ -182,7 +184,10 @@ pub(crate) fn cutting_box(
 ) -> Result<Vec<Step>, AllocError>
     requires rows { target.rows < 2 ^ 31 }
     requires goal { target.goal < 2 ^ 31 }
-    ensures { IfOk result (λ steps. (trees : List Tree) (s : TreeSequent) → IsId trees boxed.program → IsId trees boxed.formula → AreCutTrees trees boxed cut.formula cut → ArePlanned trees steps.items (cutting_box target.rows (goal_at target s) boxed.place (tree trees boxed.program) (tree trees boxed.formula) (tree trees cut.formula))) }
+    ensures { IfOk result (λ steps. (trees : List Tree) (s : TreeSequent) → IsId trees boxed.program → IsId trees boxed.formula →
+        AreCutTrees trees boxed cut.formula cut →
+        ArePlanned trees steps.items
+        (cutting_box target.rows (goal_at target s) boxed.place (tree trees boxed.program) (tree trees boxed.formula) (tree trees cut.formula))) }
 {
     let now = target.rows;
     let second = target.goal + 1;
@@ -233,7 +238,8 @@ pub(crate) fn cutting_box(
 
 /// The pairs for the axiom by which a box distributes over an implication.
 fn distributing(alloc: Global, boxed: Boxed, cut: Cut) -> Result<Listed<Pair>, AllocError>
-    ensures { IfOk result (λ pairs. pairs ≡ (record { sym = program_a; by = boxed.program }) ∷ (record { sym = any_p; by = cut.formula }) ∷ (record { sym = any_q; by = boxed.formula }) ∷ []) }
+    ensures { IfOk result (λ pairs. pairs ≡ (record { sym = program_a; by = boxed.program }) ∷ (record { sym = any_p; by = cut.formula }) ∷
+        (record { sym = any_q; by = boxed.formula }) ∷ []) }
 {
     let program = pair(alloc, Kind::Prog, b"a", 0, boxed.program)?;
     let from = pair(alloc, Kind::UnitPred, b"p", 0, cut.formula)?;

@@ -108,7 +108,8 @@ fn use_call(direction: Direction, args: &[Arg]) -> Option<UseCall<'_>>
 
 /// What a fitting atom without a locator says.
 pub(crate) fn call_of(atom: &Atom) -> Call<'_>
-    ensures call { (trees : List Tree) → IsFitting (atom_at trees atom.now) → HasNoLocator (atom_at trees atom.now) → IsCall trees (atom_at trees atom.now) result }
+    ensures call { (trees : List Tree) → IsFitting (atom_at trees atom.now) → HasNoLocator (atom_at trees atom.now) →
+        IsCall trees (atom_at trees atom.now) result }
     ensures known { (trees : List Tree) → AtomIsKnown trees atom.now → CallIsKnown trees result }
 {
     let name = atom.name.bytes();

@@ -62,7 +62,8 @@ pub fn elaborate<S: Store, L: Ledger>(
     requires fixed { HasNoLocator (atom_at (S.trees kernel.old.store) atom.now) }
 
     // The steps are those of the atom, and the rows those that they give. Names in them are names.
-    ensures made { IfOk result (λ made. AtomSteps (facts S.trees kernel.old) fact goal (atom_at (S.trees kernel.old.store) atom.now) (map (step_at (S.trees kernel.new.store)) made.steps.items) (facts S.trees kernel.new)) }
+    ensures made { IfOk result (λ made. AtomSteps (facts S.trees kernel.old) fact goal (atom_at (S.trees kernel.old.store) atom.now)
+        (map (step_at (S.trees kernel.new.store)) made.steps.items) (facts S.trees kernel.new)) }
     ensures fact { IfOk result (λ made. made.fact ≡ length kernel.new.rows) }
     ensures known { IfOk result (λ made. All (HasKnownIds (S.trees kernel.new.store)) made.steps.items) }
     ensures proper { IfOk result (λ made. All IsProper (map (step_at (S.trees kernel.new.store)) made.steps.items)) }
@@ -102,7 +103,8 @@ fn atom_steps<S: Store, L: Ledger>(
     requires known { AtomIsKnown (S.trees kernel.old.store) atom.now }
     requires fitting { IsFitting (atom_at (S.trees kernel.old.store) atom.now) }
     requires fixed { HasNoLocator (atom_at (S.trees kernel.old.store) atom.now) }
-    ensures made { IfOk result (λ made. AreMade (facts S.trees kernel.old) target.fact target.goal (atom_at (S.trees kernel.old.store) atom.now) (S.trees kernel.new.store) made.items (facts S.trees kernel.new)) }
+    ensures made { IfOk result (λ made. AreMade (facts S.trees kernel.old) target.fact target.goal (atom_at (S.trees kernel.old.store) atom.now)
+        (S.trees kernel.new.store) made.items (facts S.trees kernel.new)) }
     ensures fault { IfErr result (IsTacFault (AtomFault (facts S.trees kernel.old) target.fact target.goal (atom_at (S.trees kernel.old.store) atom.now))) }
     ensures memory { result ≡ Err Memory → AsksOrUses (facts S.trees kernel.old) target.fact target.goal (atom_at (S.trees kernel.old.store) atom.now) }
     ensures kept { ExtendsRows S.trees kernel.old kernel.new }
@@ -135,7 +137,8 @@ fn planned<S: Store, L: Ledger>(
     requires call { IsCall (S.trees kernel.old.store) (atom_at (S.trees kernel.old.store) atom.now) call }
     requires call_known { CallIsKnown (S.trees kernel.old.store) call }
     requires no_use { UsesNone call }
-    ensures plan { IfOk result (λ plan. AreAsked (facts S.trees kernel.old) target.fact target.goal (atom_at (S.trees kernel.old.store) atom.now) (S.trees kernel.new.store) plan.items) }
+    ensures plan { IfOk result (λ plan.
+        AreAsked (facts S.trees kernel.old) target.fact target.goal (atom_at (S.trees kernel.old.store) atom.now) (S.trees kernel.new.store) plan.items) }
     ensures fault { IfErr result (IsTacFault (AtomFault (facts S.trees kernel.old) target.fact target.goal (atom_at (S.trees kernel.old.store) atom.now))) }
     ensures memory { result ≡ Err Memory → AsksSome (facts S.trees kernel.old) target.fact target.goal (atom_at (S.trees kernel.old.store) atom.now) }
     ensures same { SameRows S.trees kernel.old kernel.new }
@@ -162,7 +165,8 @@ fn plain<S: Store>(
     requires fitting { IsFitting (atom_at (S.trees kernel.now.store) atom.now) }
     requires fixed { HasNoLocator (atom_at (S.trees kernel.now.store) atom.now) }
     requires plain { IsPlain atom.now.name }
-    ensures plan { IfOk result (λ plan. AreAsked (facts S.trees kernel.now) target.fact target.goal (atom_at (S.trees kernel.now.store) atom.now) (S.trees kernel.now.store) plan.items) }
+    ensures plan { IfOk result (λ plan.
+        AreAsked (facts S.trees kernel.now) target.fact target.goal (atom_at (S.trees kernel.now.store) atom.now) (S.trees kernel.now.store) plan.items) }
     ensures fault { IfErr result (IsTacFault (AtomFault (facts S.trees kernel.now) target.fact target.goal (atom_at (S.trees kernel.now.store) atom.now))) }
     ensures memory { result ≡ Err Memory → AsksSome (facts S.trees kernel.now) target.fact target.goal (atom_at (S.trees kernel.now.store) atom.now) }
 {
@@ -183,7 +187,8 @@ fn generalize<S: Store, L: Ledger>(
     requires rows { target.rows ≡ length kernel.now.rows }
     requires goal { HasGoalAt (facts S.trees kernel.now) target.fact target.goal }
     requires call { IsCall (S.trees kernel.now.store) (atom_at (S.trees kernel.now.store) atom.now) (Call.Generalize at) }
-    ensures plan { IfOk result (λ plan. AreAsked (facts S.trees kernel.now) target.fact target.goal (atom_at (S.trees kernel.now.store) atom.now) (S.trees kernel.now.store) plan.items) }
+    ensures plan { IfOk result (λ plan.
+        AreAsked (facts S.trees kernel.now) target.fact target.goal (atom_at (S.trees kernel.now.store) atom.now) (S.trees kernel.now.store) plan.items) }
     ensures fault { IfErr result (IsTacFault (AtomFault (facts S.trees kernel.now) target.fact target.goal (atom_at (S.trees kernel.now.store) atom.now))) }
     ensures memory { result ≡ Err Memory → AsksSome (facts S.trees kernel.now) target.fact target.goal (atom_at (S.trees kernel.now.store) atom.now) }
 {
@@ -209,7 +214,8 @@ fn cut_box<S: Store, L: Ledger>(
     requires known { IsId (S.trees kernel.old.store) h }
     requires formula { IsFormula (tree (S.trees kernel.old.store) h) }
     requires call { IsCall (S.trees kernel.old.store) (atom_at (S.trees kernel.old.store) atom.now) (Call.CutBox h at) }
-    ensures plan { IfOk result (λ plan. AreAsked (facts S.trees kernel.old) target.fact target.goal (atom_at (S.trees kernel.old.store) atom.now) (S.trees kernel.new.store) plan.items) }
+    ensures plan { IfOk result (λ plan.
+        AreAsked (facts S.trees kernel.old) target.fact target.goal (atom_at (S.trees kernel.old.store) atom.now) (S.trees kernel.new.store) plan.items) }
     ensures fault { IfErr result (IsTacFault (AtomFault (facts S.trees kernel.old) target.fact target.goal (atom_at (S.trees kernel.old.store) atom.now))) }
     ensures memory { result ≡ Err Memory → AsksSome (facts S.trees kernel.old) target.fact target.goal (atom_at (S.trees kernel.old.store) atom.now) }
     ensures same { SameRows S.trees kernel.old kernel.new }

@@ -61,7 +61,8 @@ fn put<S: Store, L: Ledger>(
     requires spine { IsSpine (S.trees store.old) spine.now }
     requires new { IsId (S.trees store.old) new }
     requires sort { sort (tree (S.trees store.old) new) ≡ sort (tree (S.trees store.old) spine.now.found) }
-    ensures made { IfOk result (λ id. StandsFor (S.trees store.new) id (put_at (tree (S.trees store.old) (top spine.now)) (path_of spine.now) (tree (S.trees store.old) new))) }
+    ensures made { IfOk result (λ id.
+        StandsFor (S.trees store.new) id (put_at (tree (S.trees store.old) (top spine.now)) (path_of spine.now) (tree (S.trees store.old) new))) }
     ensures grows { S.grows store.old store.new }
 {
     spine_leads();
@@ -116,7 +117,8 @@ fn exchanged<S: Store, L: Ledger>(
     requires found { sort (tree (S.trees store.old) spine.now.found) ≡ Formula }
     requires first { sort (tree (S.trees store.old) sides.left) ≡ Formula }
     requires second { sort (tree (S.trees store.old) sides.right) ≡ Formula }
-    ensures made { IfOk result (AreExchangeTrees (S.trees store.new) (direction_of direction) (tree (S.trees store.old) (top spine.now)) (path_of spine.now) (tree (S.trees store.old) sides.left) (tree (S.trees store.old) sides.right)) }
+    ensures made { IfOk result (AreExchangeTrees (S.trees store.new) (direction_of direction) (tree (S.trees store.old) (top spine.now)) (path_of spine.now)
+        (tree (S.trees store.old) sides.left) (tree (S.trees store.old) sides.right)) }
     ensures grows { S.grows store.old store.new }
 {
     spine_stays();
@@ -166,7 +168,8 @@ fn equated<S: Store, L: Ledger>(
     requires left { IsId (S.trees store.old) sides.left }
     requires right { IsId (S.trees store.old) sides.right }
     requires found { sort (tree (S.trees store.old) inner.now.found) ≡ Term }
-    ensures made { IfOk result (AreEquatedTrees (S.trees store.new) (tree (S.trees store.old) (top inner.now)) (path_of inner.now) (tree (S.trees store.old) sides.left) (tree (S.trees store.old) sides.right)) }
+    ensures made { IfOk result (AreEquatedTrees (S.trees store.new) (tree (S.trees store.old) (top inner.now)) (path_of inner.now)
+        (tree (S.trees store.old) sides.left) (tree (S.trees store.old) sides.right)) }
     ensures grows { S.grows store.old store.new }
 {
     spine_stays();
@@ -193,8 +196,10 @@ fn with_sides<S: Store, L: Ledger>(
     requires found { sort (tree (S.trees store.old) inner.now.found) ≡ Term }
     requires first { sort (tree (S.trees store.old) sides.left) ≡ Term }
     requires second { sort (tree (S.trees store.old) sides.right) ≡ Term }
-    ensures left { IfOk result (λ both. StandsFor (S.trees store.new) both.left (put_at (tree (S.trees store.old) (top inner.now)) (path_of inner.now) (tree (S.trees store.old) sides.left))) }
-    ensures right { IfOk result (λ both. StandsFor (S.trees store.new) both.right (put_at (tree (S.trees store.old) (top inner.now)) (path_of inner.now) (tree (S.trees store.old) sides.right))) }
+    ensures left { IfOk result (λ both.
+        StandsFor (S.trees store.new) both.left (put_at (tree (S.trees store.old) (top inner.now)) (path_of inner.now) (tree (S.trees store.old) sides.left))) }
+    ensures right { IfOk result (λ both. StandsFor (S.trees store.new) both.right
+        (put_at (tree (S.trees store.old) (top inner.now)) (path_of inner.now) (tree (S.trees store.old) sides.right))) }
     ensures grows { S.grows store.old store.new }
 {
     spine_stays();
@@ -221,7 +226,9 @@ fn equation_trees<S: Store, L: Ledger>(
     requires right { IsId (S.trees store.old) sides.right }
     requires first { sort (tree (S.trees store.old) sides.left) ≡ Term }
     requires second { sort (tree (S.trees store.old) sides.right) ≡ Term }
-    ensures made { IfOk result (AreEquationTrees (S.trees store.new) (direction_of direction) (tree (S.trees store.old) (top around.now.outer)) (path_of around.now.outer) (path_of around.now.inner) (tree (S.trees store.old) around.now.outer.found) (tree (S.trees store.old) sides.left) (tree (S.trees store.old) sides.right)) }
+    ensures made { IfOk result (AreEquationTrees (S.trees store.new) (direction_of direction) (tree (S.trees store.old) (top around.now.outer))
+        (path_of around.now.outer) (path_of around.now.inner) (tree (S.trees store.old) around.now.outer.found) (tree (S.trees store.old) sides.left)
+        (tree (S.trees store.old) sides.right)) }
     ensures grows { S.grows store.old store.new }
 {
     spine_stays();
@@ -249,7 +256,8 @@ fn finish_equivalence<S: Store, L: Ledger>(
     requires spine { IsSpine (S.trees store.old) spine.now }
     requires instance { IsId (S.trees store.old) f }
     requires form { HasForm E aim.place (tree (S.trees store.old) spine.now.found) (tree (S.trees store.old) f) }
-    ensures made { IfOk result (λ made. FinishUses (S.trees store.new) now aim E (path_of spine.now) (tree (S.trees store.old) (top spine.now)) (tree (S.trees store.old) f) made.items) }
+    ensures made { IfOk result (λ made.
+        FinishUses (S.trees store.new) now aim E (path_of spine.now) (tree (S.trees store.old) (top spine.now)) (tree (S.trees store.old) f) made.items) }
     ensures grows { S.grows store.old store.new }
 {
     let sides = sides_of(store, f, steps);
@@ -275,7 +283,8 @@ fn finish_equation<S: Store, L: Ledger>(
     requires formula { sort (tree (S.trees store.old) (top spine.now)) ≡ Formula }
     requires instance { IsId (S.trees store.old) f }
     requires form { HasForm Q aim.place (tree (S.trees store.old) spine.now.found) (tree (S.trees store.old) f) }
-    ensures made { IfOk result (λ made. FinishUses (S.trees store.new) now aim Q (path_of spine.now) (tree (S.trees store.old) (top spine.now)) (tree (S.trees store.old) f) made.items) }
+    ensures made { IfOk result (λ made.
+        FinishUses (S.trees store.new) now aim Q (path_of spine.now) (tree (S.trees store.old) (top spine.now)) (tree (S.trees store.old) f) made.items) }
     ensures grows { S.grows store.old store.new }
 {
     let sides = sides_of(store, f, steps);
@@ -302,7 +311,8 @@ fn finish_conditional_equation<S: Store, L: Ledger>(
     requires formula { sort (tree (S.trees store.old) (top spine.now)) ≡ Formula }
     requires instance { IsId (S.trees store.old) f }
     requires form { HasForm R aim.place (tree (S.trees store.old) spine.now.found) (tree (S.trees store.old) f) }
-    ensures made { IfOk result (λ made. FinishUses (S.trees store.new) now aim R (path_of spine.now) (tree (S.trees store.old) (top spine.now)) (tree (S.trees store.old) f) made.items) }
+    ensures made { IfOk result (λ made.
+        FinishUses (S.trees store.new) now aim R (path_of spine.now) (tree (S.trees store.old) (top spine.now)) (tree (S.trees store.old) f) made.items) }
     ensures grows { S.grows store.old store.new }
 {
     let whole = sides_of(store, f, steps);
@@ -397,7 +407,8 @@ pub(crate) fn finish<S: Store, L: Ledger>(
     requires formula { sort (tree (S.trees store.old) (top spine.now)) ≡ Formula }
     requires instance { IsId (S.trees store.old) f }
     requires form { HasForm form aim.place (tree (S.trees store.old) spine.now.found) (tree (S.trees store.old) f) }
-    ensures made { IfOk result (λ made. FinishUses (S.trees store.new) now aim form (path_of spine.now) (tree (S.trees store.old) (top spine.now)) (tree (S.trees store.old) f) made.items) }
+    ensures made { IfOk result (λ made.
+        FinishUses (S.trees store.new) now aim form (path_of spine.now) (tree (S.trees store.old) (top spine.now)) (tree (S.trees store.old) f) made.items) }
     ensures grows { S.grows store.old store.new }
 {
     match form {

@@ -6,7 +6,8 @@ ghost use Rattle.dlk_calculus.specs.Notation.{eq};
 ghost use Rattle.dlk_calculus.specs.Paths.{put_at};
 ghost use Rattle.dlk_calculus.specs.Rules.{imply, equiv};
 ghost use Rattle.dlk_calculus.specs.Sequents.{Sequent as TreeSequent};
-ghost use Rattle.dlk_uses.specs.Uses.{any_p, any_q, any_f, any_g, p_of_one, context_c, exchange, by_equivalence, by_equation, by_conditional_equation, by_conditional_equivalence, by_implication, by_fact};
+ghost use Rattle.dlk_uses.specs.Uses.{any_p, any_q, any_f, any_g, p_of_one, context_c, exchange, by_equivalence, by_equation, by_conditional_equation};
+ghost use Rattle.dlk_uses.specs.Uses.{by_conditional_equivalence, by_implication, by_fact};
 ghost use Rattle.dlk_elab.specs.Calls.{direction_of};
 ghost use Rattle.dlk_elab.specs.Forms.{exchange_rules, contextual, with_equal_terms, under_condition, AreExchangeTrees, AreEquatedTrees};
 ghost use Rattle.dlk_elab.specs.Plans.{ArePlanned, spot_at};
@@ -65,7 +66,8 @@ fn by_implication_right(
 ) -> Result<Vec<Step>, AllocError>
     requires now { now < 2 ^ 31 }
     requires goal { spot.goal < 2 ^ 31 }
-    ensures { IfOk result (λ steps. (trees : List Tree) (s : TreeSequent) (h : Tree) → IsId trees condition → ArePlanned trees steps.items (by_implication now (spot_at spot s) (Place.Succ j) (tree trees condition) h)) }
+    ensures { IfOk result (λ steps. (trees : List Tree) (s : TreeSequent) (h : Tree) → IsId trees condition →
+        ArePlanned trees steps.items (by_implication now (spot_at spot s) (Place.Succ j) (tree trees condition) h)) }
 {
     let second = spot.goal + 1;
     let rules = vec![in alloc;
@@ -86,7 +88,8 @@ fn by_implication_left(
     requires now { now < 2 ^ 31 }
     requires goal { spot.goal < 2 ^ 31 }
     requires right { spot.right < 2 ^ 31 }
-    ensures { IfOk result (λ steps. (trees : List Tree) (s : TreeSequent) (b : Tree) → IsId trees conclusion → spot.right ≡ length s.succ → ArePlanned trees steps.items (by_implication now (spot_at spot s) (Place.Ante i) b (tree trees conclusion))) }
+    ensures { IfOk result (λ steps. (trees : List Tree) (s : TreeSequent) (b : Tree) → IsId trees conclusion → spot.right ≡ length s.succ →
+        ArePlanned trees steps.items (by_implication now (spot_at spot s) (Place.Ante i) b (tree trees conclusion))) }
 {
     let second = spot.goal + 1;
     let rules = vec![in alloc;
@@ -108,7 +111,8 @@ pub(crate) fn by_implication(
     requires now { now < 2 ^ 31 }
     requires goal { spot.goal < 2 ^ 31 }
     requires right { spot.right < 2 ^ 31 }
-    ensures { IfOk result (λ steps. (trees : List Tree) (s : TreeSequent) → IsId trees condition → IsId trees conclusion → spot.right ≡ length s.succ → ArePlanned trees steps.items (by_implication now (spot_at spot s) place (tree trees condition) (tree trees conclusion))) }
+    ensures { IfOk result (λ steps. (trees : List Tree) (s : TreeSequent) → IsId trees condition → IsId trees conclusion → spot.right ≡ length s.succ →
+        ArePlanned trees steps.items (by_implication now (spot_at spot s) place (tree trees condition) (tree trees conclusion))) }
 {
     match place {
         Place::Succ(j) => by_implication_right(alloc, now, spot, j, condition),
@@ -128,7 +132,9 @@ pub(crate) fn by_conditional_equivalence(
 ) -> Result<Vec<Step>, AllocError>
     requires now { now < 2 ^ 31 }
     requires goal { spot.goal < 2 ^ 31 }
-    ensures { IfOk result (λ steps. (trees : List Tree) (s : TreeSequent) (l : Tree) → IsId trees condition → IsId trees right → StandsFor trees instance (imply (tree trees condition) (equiv l (tree trees right))) → ArePlanned trees steps.items (by_conditional_equivalence now (spot_at spot s) j (tree trees condition) l (tree trees right))) }
+    ensures { IfOk result (λ steps. (trees : List Tree) (s : TreeSequent) (l : Tree) → IsId trees condition → IsId trees right →
+        StandsFor trees instance (imply (tree trees condition) (equiv l (tree trees right))) →
+        ArePlanned trees steps.items (by_conditional_equivalence now (spot_at spot s) j (tree trees condition) l (tree trees right))) }
 {
     let third = spot.goal + 2;
     let rules = vec![in alloc;
@@ -190,7 +196,8 @@ fn exchange(alloc: Global, by: Fact, aim: Aim, new: Id) -> Result<Vec<Step>, All
     requires now { by < 2 ^ 31 + 16 }
     requires goal { aim.spot.goal < 2 ^ 31 }
     requires right { aim.spot.right < 2 ^ 31 }
-    ensures { IfOk result (λ steps. (trees : List Tree) (s : TreeSequent) → IsId trees new → aim.spot.right ≡ length s.succ → ArePlanned trees steps.items (exchange by by (spot_at aim.spot s) aim.place (direction_of aim.direction) (tree trees new))) }
+    ensures { IfOk result (λ steps. (trees : List Tree) (s : TreeSequent) → IsId trees new → aim.spot.right ≡ length s.succ →
+        ArePlanned trees steps.items (exchange by by (spot_at aim.spot s) aim.place (direction_of aim.direction) (tree trees new))) }
 {
     let rules = exchange_rules(alloc, aim, new)?;
     prove!(rules.len() < 5);
@@ -209,7 +216,8 @@ pub(crate) fn joined(mut steps: Vec<Step>, more: Vec<Step>) -> Result<Vec<Step>,
 
 /// The pairs for the rule by which a context of equivalent formulas is equivalent.
 fn in_context(alloc: Global, x: Exchanged) -> Result<Listed<Pair>, AllocError>
-    ensures { IfOk result (λ pairs. pairs ≡ (record { sym = any_p; by = x.left }) ∷ (record { sym = any_q; by = x.right }) ∷ (record { sym = context_c; by = x.context }) ∷ []) }
+    ensures { IfOk result (λ pairs. pairs ≡ (record { sym = any_p; by = x.left }) ∷ (record { sym = any_q; by = x.right }) ∷
+        (record { sym = context_c; by = x.context }) ∷ []) }
 {
     let left = pair(alloc, Kind::UnitPred, b"p", 0, x.left)?;
     let right = pair(alloc, Kind::UnitPred, b"q", 0, x.right)?;
@@ -249,7 +257,9 @@ pub(crate) fn by_equivalence(
     requires now { now < 2 ^ 31 + 12 }
     requires goal { aim.spot.goal < 2 ^ 31 }
     requires right { aim.spot.right < 2 ^ 31 }
-    ensures { IfOk result (λ steps. (trees : List Tree) (s : TreeSequent) (e : Tree) (path : List ℕ) (l r : Tree) → AreExchangeTrees trees (direction_of aim.direction) e path l r x → aim.spot.right ≡ length s.succ → ArePlanned trees steps.items (by_equivalence now (spot_at aim.spot s) aim.place (direction_of aim.direction) e path l r)) }
+    ensures { IfOk result (λ steps. (trees : List Tree) (s : TreeSequent) (e : Tree) (path : List ℕ) (l r : Tree) →
+        AreExchangeTrees trees (direction_of aim.direction) e path l r x → aim.spot.right ≡ length s.succ →
+        ArePlanned trees steps.items (by_equivalence now (spot_at aim.spot s) aim.place (direction_of aim.direction) e path l r)) }
 {
     let steps = contextual(alloc, now, x)?;
     let more = exchange(alloc, now + 3, aim, x.new)?;
@@ -312,7 +322,10 @@ pub(crate) fn by_equation(
     requires now { now < 2 ^ 31 + 8 }
     requires goal { aim.spot.goal < 2 ^ 31 }
     requires right { aim.spot.right < 2 ^ 31 }
-    ensures { IfOk result (λ steps. (trees : List Tree) (s : TreeSequent) (e : Tree) (outer inner : List ℕ) (d l r : Tree) → AreEquatedTrees trees d inner l r y → AreExchangeTrees trees (direction_of aim.direction) e outer (put_at d inner l) (put_at d inner r) x → aim.spot.right ≡ length s.succ → ArePlanned trees steps.items (by_equation now (spot_at aim.spot s) aim.place (direction_of aim.direction) e outer inner d l r)) }
+    ensures { IfOk result (λ steps. (trees : List Tree) (s : TreeSequent) (e : Tree) (outer inner : List ℕ) (d l r : Tree) →
+        AreEquatedTrees trees d inner l r y → AreExchangeTrees trees (direction_of aim.direction) e outer (put_at d inner l) (put_at d inner r) x →
+        aim.spot.right ≡ length s.succ →
+        ArePlanned trees steps.items (by_equation now (spot_at aim.spot s) aim.place (direction_of aim.direction) e outer inner d l r)) }
 {
     let steps = with_equal_terms(alloc, now, y)?;
     let more = by_equivalence(alloc, now + 4, aim, x)?;
@@ -367,7 +380,11 @@ pub(crate) fn by_conditional_equation(
     requires now { now < 2 ^ 31 }
     requires goal { aim.spot.goal < 2 ^ 31 }
     requires right { aim.spot.right < 2 ^ 31 }
-    ensures { IfOk result (λ steps. (trees : List Tree) (s : TreeSequent) (e : Tree) (outer inner : List ℕ) (d l r : Tree) → IsId trees condition → StandsFor trees equation (eq l r) → AreEquatedTrees trees d inner l r y → AreExchangeTrees trees (direction_of aim.direction) e outer (put_at d inner l) (put_at d inner r) x → aim.spot.right ≡ length s.succ → ArePlanned trees steps.items (by_conditional_equation now (spot_at aim.spot s) aim.place (direction_of aim.direction) e outer inner d (tree trees condition) l r)) }
+    ensures { IfOk result (λ steps. (trees : List Tree) (s : TreeSequent) (e : Tree) (outer inner : List ℕ) (d l r : Tree) → IsId trees condition →
+        StandsFor trees equation (eq l r) → AreEquatedTrees trees d inner l r y →
+        AreExchangeTrees trees (direction_of aim.direction) e outer (put_at d inner l) (put_at d inner r) x → aim.spot.right ≡ length s.succ →
+        ArePlanned trees steps.items
+        (by_conditional_equation now (spot_at aim.spot s) aim.place (direction_of aim.direction) e outer inner d (tree trees condition) l r)) }
 {
     let steps = under_condition(alloc, now, equation, condition)?;
     let more = by_equation(alloc, now + 5, aim, y, x)?;

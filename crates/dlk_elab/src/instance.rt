@@ -59,7 +59,8 @@ pub(crate) fn instance(
     extra: &Extra,
 ) -> Result<Vec<Step>, AllocError>
     requires { rows + length extra.now.renames + 1 < 2 ^ 32 }
-    ensures { IfOk result (λ steps. (trees : List Tree) → IsKnownExtra trees extra.now → ArePlanned trees steps.items (instance rows name.now (extra_at trees extra.now))) }
+    ensures { IfOk result (λ steps. (trees : List Tree) → IsKnownExtra trees extra.now →
+        ArePlanned trees steps.items (instance rows name.now (extra_at trees extra.now))) }
 {
     let name = name.clone()?;
     let extra = extra.copy(alloc)?;

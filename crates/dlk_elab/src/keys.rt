@@ -138,8 +138,11 @@ pub(crate) fn matched<S: Store, L: Ledger>(
     requires given { GivenIsKnown (S.trees store.old) (option_copied used.given) }
     requires found { IsId (S.trees store.old) found }
     ensures may { IfOk result (λ _. MayBeUsed named.now used.entry) }
-    ensures matches { IfOk result (IsMatch (wanted (S.trees store.old) named.now used.entry) named.now.own.items (tree (S.trees store.old) found) (given_at (S.trees store.old) (option_copied used.entry.given)) (S.trees store.new)) }
-    ensures fault { IfErr result (IsTacFault (λ why. (why ≡ NoMatch) × (MayBeUsed named.now used.entry → HasNoMatch (wanted (S.trees store.old) named.now used.entry) named.now.own.items (tree (S.trees store.old) found) (given_at (S.trees store.old) (option_copied used.entry.given))))) }
+    ensures matches { IfOk result (IsMatch (wanted (S.trees store.old) named.now used.entry) named.now.own.items (tree (S.trees store.old) found)
+        (given_at (S.trees store.old) (option_copied used.entry.given)) (S.trees store.new)) }
+    ensures fault { IfErr result (IsTacFault (λ why. (why ≡ NoMatch) × (MayBeUsed named.now used.entry →
+        HasNoMatch (wanted (S.trees store.old) named.now used.entry) named.now.own.items (tree (S.trees store.old) found)
+        (given_at (S.trees store.old) (option_copied used.entry.given))))) }
     ensures grows { S.grows store.old store.new }
 {
     uses_have_shapes();

@@ -68,8 +68,10 @@ pub(crate) fn plan<S: Store>(
     requires plain { IsPlain atom.now.name }
     requires room { target.rows < 2 ^ 31 }
     ensures plan { IfOk result (λ steps. IsPlan target.rows target.fact target.goal (S.trees store.now) s.now atom.now steps.items) }
-    ensures fault { IfErr result (IsTacFault (λ why. Asks target.rows target.fact target.goal (sequent_at (S.trees store.now) s.now) (atom_at (S.trees store.now) atom.now) (Refused why))) }
-    ensures memory { result ≡ Err Memory → (steps : List TreeStep) × Asks target.rows target.fact target.goal (sequent_at (S.trees store.now) s.now) (atom_at (S.trees store.now) atom.now) (Steps steps) }
+    ensures fault { IfErr result (IsTacFault (λ why.
+        Asks target.rows target.fact target.goal (sequent_at (S.trees store.now) s.now) (atom_at (S.trees store.now) atom.now) (Refused why))) }
+    ensures memory { result ≡ Err Memory → (steps : List TreeStep) ×
+        Asks target.rows target.fact target.goal (sequent_at (S.trees store.now) s.now) (atom_at (S.trees store.now) atom.now) (Steps steps) }
 {
     let Ok(name) = str::from_utf8(atom.name.bytes()) else {
         return Err(TacFault::NoPlace);
@@ -98,8 +100,10 @@ fn close_plan<S: Store>(
 ) -> Result<Vec<Step>, TacFault>
     requires known { IsKnown (S.trees store.now) s.now }
     requires few { HasFewFormulas (sequent_at (S.trees store.now) s.now) }
-    ensures plan { IfOk result (λ steps. (atom : Atom) → atom.name ≡ codes "close" → IsPlan target.rows target.fact target.goal (S.trees store.now) s.now atom steps.items) }
-    ensures fault { IfErr result (IsTacFault (λ why. (atom : TreeAtom) → atom.name ≡ codes "close" → Asks target.rows target.fact target.goal (sequent_at (S.trees store.now) s.now) atom (Refused why))) }
+    ensures plan { IfOk result (λ steps. (atom : Atom) → atom.name ≡ codes "close" →
+        IsPlan target.rows target.fact target.goal (S.trees store.now) s.now atom steps.items) }
+    ensures fault { IfErr result (IsTacFault (λ why. (atom : TreeAtom) → atom.name ≡ codes "close" →
+        Asks target.rows target.fact target.goal (sequent_at (S.trees store.now) s.now) atom (Refused why))) }
     ensures memory { result ≡ Err Memory → (i : ℕ) × (j : ℕ) × AreFirstSame (sequent_at (S.trees store.now) s.now) i j }
 {
     let Some((i, j)) = first_same(store, s) else {
@@ -113,7 +117,8 @@ fn close_plan<S: Store>(
 /// A leaf of the goal, and its merge into the goal.
 fn leaf_plan(alloc: Global, target: Target, s: &Sequent) -> Result<Vec<Step>, TacFault>
     requires { target.rows < 2 ^ 31 }
-    ensures plan { IfOk result (λ steps. (trees : List Tree) (atom : Atom) → IsKnown trees s.now → atom.name ≡ codes "leaf" → IsPlan target.rows target.fact target.goal trees s.now atom steps.items) }
+    ensures plan { IfOk result (λ steps. (trees : List Tree) (atom : Atom) → IsKnown trees s.now → atom.name ≡ codes "leaf" →
+        IsPlan target.rows target.fact target.goal trees s.now atom steps.items) }
     ensures fault { IfErr result (IsTacFault (λ why. ⊥)) }
 {
     let leaf = s.copy(alloc)?;
@@ -135,8 +140,10 @@ fn rule_plan(
     word: RuleWord,
     atom: &Atom,
 ) -> Result<Vec<Step>, TacFault>
-    ensures plan { IfOk result (λ steps. (trees : List Tree) (s : Sequent) → AtomIsKnown trees atom.now → atom.now.name ≡ text_of word → IsPlan target.rows target.fact target.goal trees s atom.now steps.items) }
-    ensures fault { IfErr result (IsTacFault (λ why. (why ≡ NoPlace) × ((trees : List Tree) → HasNone (wanted word) (side_of word) (map (argument_at trees) atom.now.args)))) }
+    ensures plan { IfOk result (λ steps. (trees : List Tree) (s : Sequent) → AtomIsKnown trees atom.now → atom.now.name ≡ text_of word →
+        IsPlan target.rows target.fact target.goal trees s atom.now steps.items) }
+    ensures fault { IfErr result (IsTacFault (λ why. (why ≡ NoPlace) ×
+        ((trees : List Tree) → HasNone (wanted word) (side_of word) (map (argument_at trees) atom.now.args)))) }
     ensures memory { result ≡ Err Memory → (trees : List Tree) → HasSome (wanted word) (side_of word) (map (argument_at trees) atom.now.args) }
 {
     let arguments = rule_arguments(alloc, word, atom.args.as_slice())?;

@@ -61,7 +61,8 @@ pub(crate) fn closed_by(
     goal: u32,
 ) -> Result<Vec<Step>, AllocError>
     requires { rows + length rules.items < 2 ^ 32 }
-    ensures { IfOk result (λ steps. (trees : List Tree) → All (λ r. RuleIsKnown trees r.1) rules.items → ArePlanned trees steps.items (closed_by by spot.fact rows (goals_and_rules trees rules.items) goal)) }
+    ensures { IfOk result (λ steps. (trees : List Tree) → All (λ r. RuleIsKnown trees r.1) rules.items →
+        ArePlanned trees steps.items (closed_by by spot.fact rows (goals_and_rules trees rules.items) goal)) }
 {
     let steps = turns(alloc, by, spot, rows, rules, goal)?;
     Ok(steps)

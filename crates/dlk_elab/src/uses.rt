@@ -77,7 +77,8 @@ fn find<S: Store, L: Ledger>(
     requires goal { HasGoalAt (facts S.trees kernel.old) target.fact target.goal }
     requires call { IsCall (S.trees kernel.old.store) (atom_at (S.trees kernel.old.store) atom.now) (Call.Use used) }
     requires given { GivenIsKnown (S.trees kernel.old.store) (option_copied used.given) }
-    ensures found { IfOk result (IsFound (facts S.trees kernel.old) target (atom_at (S.trees kernel.old.store) atom.now) (S.trees kernel.new.store) used.entry) }
+    ensures found { IfOk result
+        (IsFound (facts S.trees kernel.old) target (atom_at (S.trees kernel.old.store) atom.now) (S.trees kernel.new.store) used.entry) }
     ensures fault { IfErr result (IsTacFault (AtomFault (facts S.trees kernel.old) target.fact target.goal (atom_at (S.trees kernel.old.store) atom.now))) }
     ensures unknown { axiom_named used.entry.name.now ≡ None → result ≡ Err TacFault.UnknownName }
     ensures same { SameRows S.trees kernel.old kernel.new }
@@ -118,7 +119,8 @@ fn behind<S: Store, L: Ledger>(
     requires spine { IsSpine (S.trees kernel.old.store) found.now.way }
     requires formula { sort (tree (S.trees kernel.old.store) (top found.now.way)) ≡ Formula }
     requires proves { ProvesForm (facts S.trees kernel.old) found.now.form used.place (tree (S.trees kernel.old.store) found.now.way.found) }
-    ensures made { IfOk result (λ rest. FinishLast (S.trees kernel.new.store) (facts S.trees kernel.old) (aim_of target used.entry found.now.right) found.now.form (path_of found.now.way) (tree (S.trees kernel.old.store) (top found.now.way)) rest.items) }
+    ensures made { IfOk result (λ rest. FinishLast (S.trees kernel.new.store) (facts S.trees kernel.old)
+        (aim_of target used.entry found.now.right) found.now.form (path_of found.now.way) (tree (S.trees kernel.old.store) (top found.now.way)) rest.items) }
     ensures same { SameRows S.trees kernel.old kernel.new }
     ensures grows { S.grows kernel.old.store kernel.new.store }
 {
@@ -151,7 +153,8 @@ pub(crate) fn use_axiom<S: Store, L: Ledger>(
     requires known { AtomIsKnown (S.trees kernel.old.store) atom.now }
     requires call { IsCall (S.trees kernel.old.store) (atom_at (S.trees kernel.old.store) atom.now) (Call.Use used) }
     requires given { GivenIsKnown (S.trees kernel.old.store) (option_copied used.given) }
-    ensures made { IfOk result (λ made. AreMade (facts S.trees kernel.old) target.fact target.goal (atom_at (S.trees kernel.old.store) atom.now) (S.trees kernel.new.store) made.items (facts S.trees kernel.new)) }
+    ensures made { IfOk result (λ made. AreMade (facts S.trees kernel.old) target.fact target.goal (atom_at (S.trees kernel.old.store) atom.now)
+        (S.trees kernel.new.store) made.items (facts S.trees kernel.new)) }
     ensures fault { IfErr result (IsTacFault (AtomFault (facts S.trees kernel.old) target.fact target.goal (atom_at (S.trees kernel.old.store) atom.now))) }
     ensures unknown { axiom_named used.entry.name.now ≡ None → result ≡ Err TacFault.UnknownName }
     ensures kept { ExtendsRows S.trees kernel.old kernel.new }

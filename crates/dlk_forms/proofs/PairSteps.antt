@@ -30,8 +30,8 @@ use Rattle.dlk_reader.specs.declared.parts.Last.{Last}
 use Rattle.dlk_reader.specs.declared.parts.Mode.{Mode}
 use Rattle.dlk_reader.specs.declared.parts.Mode.TheVariants as mode
 use Rattle.dlk_reader.specs.declared.stack.Stack.{Stack}
-use Rattle.dlk_reader.specs.declared.stop.StepFault.{StepFault}
-use Rattle.dlk_reader.specs.declared.stop.StepFault.TheVariants.{Memory, Syntax}
+use Rattle.dlk_reader.specs.declared.stop.LexemeFault.{LexemeFault}
+use Rattle.dlk_reader.specs.declared.stop.LexemeFault.TheVariants.{Memory, Syntax}
 use Rattle.dlk_reader.proofs.Commas.{ended_by, ended_with, behind, comma_behind}
 
 -- the pairs do not lie on the stack
@@ -68,7 +68,7 @@ pub in_system : (r : PairsSoFar) (l : List PairPhrase) (s : Sym) (m : Mode) (x :
     → ShowsPair r l (pair.InSystem s m) (system_state s x)
 in_system r l s m x e p h = rw (system_goes_on s x e) (record { inner = x; state = refl; pairs = p; shows = h })
 
-pub agrees_same : {X Y V : Type 0} (s : X → Y → Type 0) (r : X → V → Type 0) (o : Result X StepFault) (u : Option Y) (g : Y → V)
+pub agrees_same : {X Y V : Type 0} (s : X → Y → Type 0) (r : X → V → Type 0) (o : Result X LexemeFault) (u : Option Y) (g : Y → V)
     → ((x : X) (y : Y) → s x y → r x (g y)) → Agrees s o u → Agrees r o (u >>= λ y. Some (g y))
 agrees_same s r (Ok x) (Some y) g f a = f x y a
 agrees_same s r (Ok x) None g f a = a
@@ -175,7 +175,7 @@ left_shown r l h (pair.BraceWanted s) x e = absurd e
 left_shown r l h (pair.InSystem s m) x e = absurd e
 left_shown r l h (pair.SystemEnds s) x e = absurd e
 
-pub left_agrees : (r : PairsSoFar) (l : List PairPhrase) → Rests r l → (o : Result PairMode StepFault) (u : Option PairState) → Agrees IsLeft o u
+pub left_agrees : (r : PairsSoFar) (l : List PairPhrase) → Rests r l → (o : Result PairMode LexemeFault) (u : Option PairState) → Agrees IsLeft o u
     → Agrees (ShowsPair r l) o u
 left_agrees r l h (Ok m) (Some x) a = left_shown r l h m x a
 left_agrees r l h (Ok m) None a = a
@@ -184,7 +184,7 @@ left_agrees r l h (Err Syntax) (Some x) a = absurd a
 left_agrees r l h (Err Syntax) None a = a
 
 -- what is read of the next pair
-pub within_shown : (r : PairsSoFar) (l : List PairPhrase) (o : Result PairMode StepFault) (u : Option PairState) → Agrees (ShowsPair r l) o u
+pub within_shown : (r : PairsSoFar) (l : List PairPhrase) (o : Result PairMode LexemeFault) (u : Option PairState) → Agrees (ShowsPair r l) o u
     → Agrees (ShowsWithin r) o (u >>= λ y. Some (Within l y))
 within_shown r l o u a = agrees_same (ShowsPair r l) (ShowsWithin r) o u (Within l) (λ m x h. record { pairs = l; pair = x; state = refl; shows = h }) a
 
@@ -205,7 +205,7 @@ pub right_goes_on : (r : PairsSoFar) (l : List PairPhrase) (w : RightPart) (m : 
 right_goes_on r l w m x k h = record { pairs = l; pair = InRight (wants w) x; state = refl; shows = record { inner = x; state = refl; pairs = k; shows = h } }
 
 -- the same of what a call leaves, where another reader holds it
-agrees_leaving : {R V Y W : Type 0} (s : R → Y → Type 0) (t : V → W → Type 0) (r : R) (v : V) (done : Result (Unit {0}) StepFault) (u : Option Y)
+agrees_leaving : {R V Y W : Type 0} (s : R → Y → Type 0) (t : V → W → Type 0) (r : R) (v : V) (done : Result (Unit {0}) LexemeFault) (u : Option Y)
     (g : Y → W) → ((y : Y) → s r y → t v (g y)) → Agrees s (leaving r done) u → Agrees t (leaving v done) (u >>= λ y. Some (g y))
 agrees_leaving s t r v (Ok d) (Some y) g f a = f y a
 agrees_leaving s t r v (Ok d) None g f a = a
@@ -214,7 +214,7 @@ agrees_leaving s t r v (Err Syntax) (Some y) g f a = absurd a
 agrees_leaving s t r v (Err Syntax) None g f a = a
 
 -- In a right side only the stack and where its reader stands change.
-module _ (r : PairsSoFar) (k : Stack) (w : RightPart) (m next : Mode) (c : SeenLexeme) (done : Result (Unit {0}) StepFault) where
+module _ (r : PairsSoFar) (k : Stack) (w : RightPart) (m next : Mode) (c : SeenLexeme) (done : Result (Unit {0}) LexemeFault) where
   abbrev changed : PairsReader
   changed = record { pairs = record r { stack = k }; mode = Some (pair.InRight w next) }
 

@@ -10,8 +10,8 @@ use Rattle.dlk_machine.specs.Machine.{when}
 use Rattle.dlk_machine.specs.Parse.{Machine, or_else, parse_from}
 use Rattle.dlk_reader.specs.Shows.{Agrees}
 use Rattle.dlk_reader.specs.Outcomes.{Outcome, Whole, Stopped, after_one, Steps, Ends, ReadsTokens, OverAll, ReadsAll}
-use Rattle.dlk_reader.specs.declared.stop.StepFault.{StepFault}
-use Rattle.dlk_reader.specs.declared.stop.StepFault.TheVariants as fault
+use Rattle.dlk_reader.specs.declared.stop.LexemeFault.{LexemeFault}
+use Rattle.dlk_reader.specs.declared.stop.LexemeFault.TheVariants as fault
 use Rattle.dlk_reader.specs.declared.stop.Stop.{Stop}
 use Rattle.dlk_reader.specs.declared.stop.Stop.TheVariants.{Memory, BadByte, Syntax}
 use Rattle.dlk_reader.proofs.Agree.{agrees_ok}
@@ -53,7 +53,7 @@ module _ {X T : Type 0} (d : Dots) (m : Machine X T) where
     gives_on x y k s (Stopped place) e g = parsed_on x y k s e ∙ ap later g
 
     -- a reader whose step agrees with the machine's
-    pub steps : (r : R) (k : Lexeme) (result : Result R StepFault) → ((x : X) → shows r x → Agrees shows result (when (permits d k) (m.step x k)))
+    pub steps : (r : R) (k : Lexeme) (result : Result R LexemeFault) → ((x : X) → shows r x → Agrees shows result (when (permits d k) (m.step x k)))
         → Steps (Comes d m shows is_code) r k result
     steps r k (Ok next) f = λ s o h x w.
         let a = agrees_ok shows next (when (permits d k) (m.step x k)) (f x w) in
@@ -62,7 +62,7 @@ module _ {X T : Type 0} (d : Dots) (m : Machine X T) where
     steps r k (Err fault.Syntax) f = λ s x w. ap (goes 0 s) (none_from shows (when (permits d k) (m.step x k)) (f x w))
 
     -- and its end
-    pub ends : (r : R) (result : Result V StepFault) → ((x : X) → shows r x → Agrees is_code result (m.ended x)) → Ends (Comes d m shows is_code) r result
+    pub ends : (r : R) (result : Result V LexemeFault) → ((x : X) → shows r x → Agrees is_code result (m.ended x)) → Ends (Comes d m shows is_code) r result
     ends r (Ok v) f = λ x w.
         let a = agrees_ok is_code v (m.ended x) (f x w) in
         record { said = a.0; parsed = ap (λ (o : Option T). or_else {B = Result T ℕ} o (Err 0) (λ t. Ok t)) a.1; code = a.2 }
@@ -82,12 +82,12 @@ module _ {I R V : Type 0} (comes : I → R → List Lexeme → Outcome V → Typ
   abbrev pub each : R → List Lexeme → Outcome V → Type 0
   each r s o = (i : I) → comes i r s o
 
-  pub steps_each : (r : R) (k : Lexeme) (result : Result R StepFault) → ((i : I) → Steps (comes i) r k result) → Steps each r k result
+  pub steps_each : (r : R) (k : Lexeme) (result : Result R LexemeFault) → ((i : I) → Steps (comes i) r k result) → Steps each r k result
   steps_each r k (Ok next) f = λ s o h i. f i s o (h i)
   steps_each r k (Err fault.Memory) f = tt
   steps_each r k (Err fault.Syntax) f = λ s i. f i s
 
-  pub ends_each : (r : R) (result : Result V StepFault) → ((i : I) → Ends (comes i) r result) → Ends each r result
+  pub ends_each : (r : R) (result : Result V LexemeFault) → ((i : I) → Ends (comes i) r result) → Ends each r result
   ends_each r (Ok v) f = λ i. f i
   ends_each r (Err fault.Memory) f = tt
   ends_each r (Err fault.Syntax) f = λ i. f i

@@ -7,8 +7,8 @@ use Rattle.dlk_grammar.specs.Grammar.{Sides, Turned}
 use Rattle.dlk_machine.specs.Machine.{◌>>=◌, as_sort, State, Wants, ended}
 use Rattle.dlk_machine.specs.Parse.{or_else}
 use Rattle.dlk_machine.specs.Sequents.{Side, LeftSide, RightSide, SequentState, Fresh, Reading, inner, sequent_step, sequent_ended}
-use Rattle.dlk_reader.specs.declared.stop.StepFault.{StepFault}
-use Rattle.dlk_reader.specs.declared.stop.StepFault.TheVariants as fault
+use Rattle.dlk_reader.specs.declared.stop.LexemeFault.{LexemeFault}
+use Rattle.dlk_reader.specs.declared.stop.LexemeFault.TheVariants as fault
 use Rattle.dlk_reader.specs.declared.parts.Mode.{Mode}
 use Rattle.dlk_reader.specs.declared.parts.Mode.TheVariants as mode
 use Rattle.dlk_forms.specs.declared.sides.SidesSoFar.{SidesSoFar}
@@ -27,7 +27,7 @@ finished_ok r w l x a = go (ended Formula x) refl a
     go (Some t) e a = (t, e, a)
     go None e a = absurd a
 
-pub finished_err : {V W : Type 0} (s : Unit {0} → Phrases → Type 0) (r : V → W → Type 0) (f : StepFault) (l : Phrases) (o : Option Phrase)
+pub finished_err : {V W : Type 0} (s : Unit {0} → Phrases → Type 0) (r : V → W → Type 0) (f : LexemeFault) (l : Phrases) (o : Option Phrase)
     (g : Phrase → Option W) → Agrees s (Err f) (o >>= λ t. Some (snoc l t)) → Agrees r (Err f) (o >>= g)
 finished_err s r fault.Memory l o g a = tt
 finished_err s r fault.Syntax l (Some t) g a = absurd a
@@ -76,7 +76,7 @@ pub fresh_ended : (w : Side) → sequent_ended (Fresh w) ≡ both_of w none
 fresh_ended LeftSide = refl
 fresh_ended (RightSide m) = refl
 
-pub unfinished : {V : Type 0} (s : Unit {0} → Phrases → Type 0) (r : V → Sides → Type 0) (f : StepFault) (w : Side) (l : Phrases) (x : State)
+pub unfinished : {V : Type 0} (s : Unit {0} → Phrases → Type 0) (r : V → Sides → Type 0) (f : LexemeFault) (w : Side) (l : Phrases) (x : State)
     → Agrees s (Err f) (finished l x) → Agrees r (Err f) (sequent_ended (Reading w l x))
 unfinished s r fault.Memory w l x a = tt
 unfinished s r fault.Syntax LeftSide l x a = tt

@@ -9,8 +9,8 @@ use Rattle.dlk_machine.specs.Expressions.{ExpressionState, Unread, FirstName, Fi
 use Rattle.dlk_machine.specs.Sequents.{Side, Fresh, Reading, inner, sequent_step}
 use Rattle.dlk_reader.specs.declared.lexeme.Lexeme.{Lexeme as SeenLexeme}
 use Rattle.dlk_reader.specs.declared.lexeme.Lexeme.TheVariants as lexeme
-use Rattle.dlk_reader.specs.declared.stop.StepFault.{StepFault}
-use Rattle.dlk_reader.specs.declared.stop.StepFault.TheVariants.{Memory, Syntax}
+use Rattle.dlk_reader.specs.declared.stop.LexemeFault.{LexemeFault}
+use Rattle.dlk_reader.specs.declared.stop.LexemeFault.TheVariants.{Memory, Syntax}
 use Rattle.dlk_reader.specs.declared.stack.Stack.{Stack}
 use Rattle.dlk_reader.specs.declared.parts.Mode.{Mode}
 use Rattle.dlk_forms.specs.declared.expressions.Place.{Place}
@@ -20,7 +20,7 @@ use Rattle.dlk_forms.specs.declared.sides.SidesSoFar.{SidesSoFar}
 use Rattle.dlk_forms.specs.Readers.{ShowsOf, ShowsExpression, KeepsSide}
 
 -- a program of an expression
-pub as_programs : (k : Stack) (r : Result Place StepFault) (o : Option State) → Agrees (ShowsOf Program k) r o
+pub as_programs : (k : Stack) (r : Result Place LexemeFault) (o : Option State) → Agrees (ShowsOf Program k) r o
     → Agrees (ShowsExpression k) r (o >>= λ y. Some (AsProgram y))
 as_programs k (Ok p) (Some y) a = a
 as_programs k (Ok p) None a = a

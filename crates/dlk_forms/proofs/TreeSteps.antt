@@ -13,8 +13,8 @@ use Rattle.dlk_reader.specs.Shows.{IsWhole, seen, Shows, Agrees}
 use Rattle.dlk_reader.specs.declared.lexeme.Lexeme.{Lexeme as SeenLexeme}
 use Rattle.dlk_reader.specs.declared.parts.Mode.{Mode}
 use Rattle.dlk_reader.specs.declared.stack.Stack.{Stack}
-use Rattle.dlk_reader.specs.declared.stop.StepFault.{StepFault}
-use Rattle.dlk_reader.specs.declared.stop.StepFault.TheVariants.{Memory, Syntax}
+use Rattle.dlk_reader.specs.declared.stop.LexemeFault.{LexemeFault}
+use Rattle.dlk_reader.specs.declared.stop.LexemeFault.TheVariants.{Memory, Syntax}
 use Rattle.dlk_reader.proofs.Agree.{ok_same, err_same}
 use Rattle.dlk_forms.specs.Readers.{ShowsOf, ShowsExpression, ShowsPlace, tree_step, tree_ended}
 use Rattle.dlk_forms.specs.declared.expressions.Place.{Place}
@@ -22,7 +22,7 @@ use Rattle.dlk_forms.specs.declared.expressions.Place.TheVariants as place
 use Rattle.dlk_forms.proofs.Steps.{as_programs, expression_of}
 
 -- a step that is permitted
-pub when_err : {X Y V : Type 0} (s : X → Y → Type 0) (r : V → Y → Type 0) (f : StepFault) (b : Bool) (o : Option Y) → b ≡ true → Agrees s (Err f) o
+pub when_err : {X Y V : Type 0} (s : X → Y → Type 0) (r : V → Y → Type 0) (f : LexemeFault) (b : Bool) (o : Option Y) → b ≡ true → Agrees s (Err f) o
     → Agrees r (Err f) (when b o)
 when_err s r f b o e a = rw e (err_same s r f o a)
 
@@ -31,14 +31,14 @@ pub when_ok : {X Y V : Type 0} (s : X → Y → Type 0) (r : V → Y → Type 0)
 when_ok s r x v b o e f a = rw e (ok_same s r x v o f a)
 
 module _ (wanted : Form) (k new : Stack) (p : Place) where
-  pub tree_steps : (r : Result Place StepFault) (l : Lexeme) → ((x : ExpressionState) → ShowsExpression k p x → Agrees (ShowsExpression new) r
+  pub tree_steps : (r : Result Place LexemeFault) (l : Lexeme) → ((x : ExpressionState) → ShowsExpression k p x → Agrees (ShowsExpression new) r
       (expression_step x l)) → ((s : Sort) (x : State) → ShowsOf s k p x → Agrees (ShowsOf s new) r (step s x l)) → (x : FormState wanted)
       → ShowsPlace wanted k p x → Agrees (ShowsPlace wanted new) r (tree_step wanted x l)
   tree_steps r l e o = elim wanted as (λ wanted. (x : FormState wanted) → ShowsPlace wanted k p x
       → Agrees (ShowsPlace wanted new) r (tree_step wanted x l))
       [ form.Formula ↦ o Formula | form.Term ↦ o Term | form.Program ↦ o Program | form.Expression ↦ e ]
 
-  pub tree_ends : (r : Result (Unit {0}) StepFault) → ((x : ExpressionState) → ShowsExpression k p x → Agrees (λ _ t. IsWhole new t) r
+  pub tree_ends : (r : Result (Unit {0}) LexemeFault) → ((x : ExpressionState) → ShowsExpression k p x → Agrees (λ _ t. IsWhole new t) r
       (expression_ended x)) → ((s : Sort) (x : State) → ShowsOf s k p x → Agrees (λ _ t. IsWhole new t) r (ended s x)) → (x : FormState wanted)
       → ShowsPlace wanted k p x → Agrees (λ _ t. IsWhole new t) r (tree_ended wanted x)
   tree_ends r e o = elim wanted as (λ wanted. (x : FormState wanted) → ShowsPlace wanted k p x
@@ -46,7 +46,7 @@ module _ (wanted : Form) (k new : Stack) (p : Place) where
       [ form.Formula ↦ o Formula | form.Term ↦ o Term | form.Program ↦ o Program | form.Expression ↦ e ]
 
 -- what a call leaves, where another thing holds it
-leaving_same : {R V Y : Type 0} (s : R → Y → Type 0) (t : V → Y → Type 0) (r : R) (v : V) (done : Result (Unit {0}) StepFault) (u : Option Y)
+leaving_same : {R V Y : Type 0} (s : R → Y → Type 0) (t : V → Y → Type 0) (r : R) (v : V) (done : Result (Unit {0}) LexemeFault) (u : Option Y)
     → ((y : Y) → s r y → t v y) → Agrees s (leaving r done) u → Agrees t (leaving v done) u
 leaving_same s t r v (Ok d) (Some y) f a = f y a
 leaving_same s t r v (Ok d) None f a = a
@@ -54,14 +54,14 @@ leaving_same s t r v (Err Memory) u f a = tt
 leaving_same s t r v (Err Syntax) (Some y) f a = a
 leaving_same s t r v (Err Syntax) None f a = a
 
-pub when_leaving : {R V Y : Type 0} (s : R → Y → Type 0) (t : V → Y → Type 0) (r : R) (v : V) (done : Result (Unit {0}) StepFault) (b : Bool)
+pub when_leaving : {R V Y : Type 0} (s : R → Y → Type 0) (t : V → Y → Type 0) (r : R) (v : V) (done : Result (Unit {0}) LexemeFault) (b : Bool)
     (u : Option Y) → b ≡ true → ((y : Y) → s r y → t v y) → Agrees s (leaving r done) u → Agrees t (leaving v done) (when b u)
 when_leaving s t r v done b u e f a = rw e (leaving_same s t r v done u f a)
 
 -- In a tree of a sort only the stack and where its reader stands change.
-module _ (k new : Stack) (sort : Sort) (mode next : Mode) (c : SeenLexeme) (done : Result (Unit {0}) StepFault)
+module _ (k new : Stack) (sort : Sort) (mode next : Mode) (c : SeenLexeme) (done : Result (Unit {0}) LexemeFault)
     (steps : (y : State) → Shows k mode y → Agrees (Shows new) (leaving next done) (step sort y (seen c))) where
-  abbrev left : Result Place StepFault
+  abbrev left : Result Place LexemeFault
   left = leaving (place.Of sort next) done
 
   goes_of : (s : Sort) (x : State) → ShowsOf s k (place.Of sort mode) x → Agrees (ShowsOf s new) left (step s x (seen c))

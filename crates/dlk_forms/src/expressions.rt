@@ -8,7 +8,7 @@ ghost use Rattle.dlk_machine.specs.Expressions.{ExpressionState, Unread, FirstNa
 ghost use Rattle.dlk_reader.specs.Shows.{IsWhole, seen, Shows, Agrees, IsOpen};
 ghost use Rattle.dlk_forms.specs.Readers.{ShowsOf, ShowsExpression};
 
-use dlk_reader::{Last, Lexeme, Mode, Stack, StepFault, Tail, variable};
+use dlk_reader::{Last, Lexeme, LexemeFault, Mode, Stack, Tail, variable};
 use dlk_tree::{Name, Sort};
 use std::alloc::Global;
 
@@ -32,7 +32,7 @@ fn step_of(
     sort: Sort,
     mode: Mode,
     lexeme: Lexeme,
-) -> Result<Place, StepFault>
+) -> Result<Place, LexemeFault>
     ensures { (x : State) → Shows stack.old mode x → Agrees (ShowsOf sort stack.new) result (step sort x (seen lexeme)) }
 {
     Ok(Place::Of(sort, stack.step(alloc, sort, mode, lexeme)?))
@@ -44,7 +44,7 @@ fn step_program(
     alloc: Global,
     mode: Mode,
     lexeme: Lexeme,
-) -> Result<Place, StepFault>
+) -> Result<Place, LexemeFault>
     ensures { (x : State) → Shows stack.old mode x → Agrees (ShowsExpression stack.new) result (as_program x (seen lexeme)) }
 {
     step_of(stack, alloc, Sort::Program, mode, lexeme)
@@ -56,14 +56,14 @@ fn step_either(
     alloc: Global,
     mode: Mode,
     lexeme: Lexeme,
-) -> Result<Place, StepFault>
+) -> Result<Place, LexemeFault>
     ensures { (x : State) → Shows stack.old mode x → Agrees (ShowsExpression stack.new) result (as_formula x (seen lexeme)) }
 {
     Ok(Place::Either(stack.step(alloc, Sort::Formula, mode, lexeme)?))
 }
 
 /// The first lexeme of an expression.
-fn step_unread(stack: &mut Stack, alloc: Global, lexeme: Lexeme) -> Result<Place, StepFault>
+fn step_unread(stack: &mut Stack, alloc: Global, lexeme: Lexeme) -> Result<Place, LexemeFault>
     ensures { IsOpen stack.old [] [] → Agrees (ShowsExpression stack.new) result (expression_step Unread (seen lexeme)) }
 {
     match lexeme {
@@ -81,7 +81,7 @@ fn step_first_name(
     at: usize,
     name: Name,
     lexeme: Lexeme,
-) -> Result<Place, StepFault>
+) -> Result<Place, LexemeFault>
     ensures { IsOpen stack.old [] [] → Agrees (ShowsExpression stack.new) result (expression_step (FirstName at name) (seen lexeme)) }
 {
     match lexeme {
@@ -93,7 +93,7 @@ fn step_first_name(
 }
 
 /// Reads the name and the prime with which an expression begins as a term.
-fn differential(stack: &mut Stack, name: Name) -> Result<Mode, StepFault>
+fn differential(stack: &mut Stack, name: Name) -> Result<Mode, LexemeFault>
     ensures { IsOpen stack.old [] [] → Agrees (Shows stack.new) result (Some (Has [] (Is sort_of.Term (Variable name true) Done))) }
 {
     stack.out.push(variable(name, true))?;
@@ -106,7 +106,7 @@ fn step_first_prime(
     alloc: Global,
     name: Name,
     lexeme: Lexeme,
-) -> Result<Place, StepFault>
+) -> Result<Place, LexemeFault>
     ensures { IsOpen stack.old [] [] → Agrees (ShowsExpression stack.new) result (expression_step (FirstPrime name) (seen lexeme)) }
 {
     if let Lexeme::Gets = lexeme {
@@ -122,7 +122,7 @@ pub(crate) fn step_tree(
     alloc: Global,
     place: Place,
     lexeme: Lexeme,
-) -> Result<Place, StepFault>
+) -> Result<Place, LexemeFault>
     ensures expression { (x : ExpressionState) → ShowsExpression stack.old place x
         → Agrees (ShowsExpression stack.new) result (expression_step x (seen lexeme)) }
     ensures of { (sort : TheSort) (x : State) → ShowsOf sort stack.old place x
@@ -138,14 +138,14 @@ pub(crate) fn step_tree(
 }
 
 /// The end of one tree.
-pub(crate) fn end_tree(stack: &mut Stack, place: Place) -> Result<(), StepFault>
+pub(crate) fn end_tree(stack: &mut Stack, place: Place) -> Result<(), LexemeFault>
     ensures expression { (x : ExpressionState) → ShowsExpression stack.old place x
         → Agrees (λ _ t. IsWhole stack.new t) result (expression_ended x) }
     ensures of { (sort : TheSort) (x : State) → ShowsOf sort stack.old place x
         → Agrees (λ _ t. IsWhole stack.new t) result (ended sort x) }
 {
     match place {
-        Place::Unread => Err(StepFault::Syntax),
+        Place::Unread => Err(LexemeFault::Syntax),
         Place::FirstName { at, name } => stack.end_either(Mode::Has(Last::Name { at, name })),
         Place::FirstPrime(name) => {
             let mode = differential(stack, name)?;

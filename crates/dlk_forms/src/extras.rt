@@ -17,7 +17,7 @@ use crate::dots::permits;
 use crate::pair_heads::LeftMode;
 use crate::pairs::{PairMode, PairsCode, PairsReader, PairsSoFar};
 use dlk_grammar::Dots;
-use dlk_reader::{Lexeme, LexemeReader, StepFault};
+use dlk_reader::{Lexeme, LexemeFault, LexemeReader};
 use dlk_tree::Name;
 use std::alloc::Global;
 use std::mem;
@@ -58,7 +58,7 @@ pub(crate) struct ExtraReader {
 }
 
 /// A lexeme behind a whole rename.
-fn rename_ends(lexeme: Lexeme) -> Result<ExtraMode, StepFault>
+fn rename_ends(lexeme: Lexeme) -> Result<ExtraMode, LexemeFault>
     ensures { (r : TheReader) → Rests r.pairs []
         → Agrees (ShowsExtraAt r) result (extra_step (RenameEnds r.renames.items) (seen lexeme)) }
 {
@@ -67,7 +67,7 @@ fn rename_ends(lexeme: Lexeme) -> Result<ExtraMode, StepFault>
             let begins = PairMode::Left(LeftMode::Begins);
             Ok(ExtraMode::InPairs(Some(begins)))
         }
-        _ => Err(StepFault::Syntax),
+        _ => Err(LexemeFault::Syntax),
     }
 }
 
@@ -78,7 +78,7 @@ impl ExtraSoFar {
         alloc: Global,
         mode: Option<PairMode>,
         lexeme: Lexeme,
-    ) -> Result<ExtraMode, StepFault>
+    ) -> Result<ExtraMode, LexemeFault>
         ensures { (x : PairsState) → ShowsPairsAt self.old.pairs mode x
             → Agrees (ShowsExtraAt self.new) result (pairs_go_on self.old.renames.items x (seen lexeme)) }
     {
@@ -87,7 +87,7 @@ impl ExtraSoFar {
     }
 
     /// The mark of a rename, which stands behind a name with which the first pair could begin.
-    fn swap(&mut self, alloc: Global, mode: Option<PairMode>) -> Result<ExtraMode, StepFault>
+    fn swap(&mut self, alloc: Global, mode: Option<PairMode>) -> Result<ExtraMode, LexemeFault>
         ensures { (x : PairsState) → ShowsPairsAt self.old.pairs mode x
             → Agrees (ShowsExtraAt self.new) result (extra_step (PairsWithin self.old.renames.items x) SwapsLexeme) }
     {
@@ -96,7 +96,7 @@ impl ExtraSoFar {
                 if self.pairs.symbols.is_empty() {
                     Ok(ExtraMode::NewWanted(name))
                 } else {
-                    Err(StepFault::Syntax)
+                    Err(LexemeFault::Syntax)
                 }
             }
             mode => self.pairs_step(alloc, mode, Lexeme::Swaps),
@@ -104,7 +104,7 @@ impl ExtraSoFar {
     }
 
     /// A lexeme where the new name of a rename is wanted.
-    fn rename(&mut self, name: Name, lexeme: Lexeme) -> Result<ExtraMode, StepFault>
+    fn rename(&mut self, name: Name, lexeme: Lexeme) -> Result<ExtraMode, LexemeFault>
         ensures { Rests self.old.pairs []
             → Agrees (ShowsExtraAt self.new) result (extra_step (NameWanted self.old.renames.items name) (seen lexeme)) }
     {
@@ -113,7 +113,7 @@ impl ExtraSoFar {
                 self.renames.push((name, new))?;
                 Ok(ExtraMode::Renamed)
             }
-            _ => Err(StepFault::Syntax),
+            _ => Err(LexemeFault::Syntax),
         }
     }
 
@@ -123,7 +123,7 @@ impl ExtraSoFar {
         alloc: Global,
         mode: Option<PairMode>,
         lexeme: Lexeme,
-    ) -> Result<ExtraMode, StepFault>
+    ) -> Result<ExtraMode, LexemeFault>
         ensures { (x : PairsState) → ShowsPairsAt self.old.pairs mode x
             → Agrees (ShowsExtraAt self.new) result (extra_step (PairsWithin self.old.renames.items x) (seen lexeme)) }
     {
@@ -139,7 +139,7 @@ impl ExtraSoFar {
         alloc: Global,
         mode: ExtraMode,
         lexeme: Lexeme,
-    ) -> Result<ExtraMode, StepFault>
+    ) -> Result<ExtraMode, LexemeFault>
         ensures { (x : ExtraState) → ShowsExtraAt self.old mode x
             → Agrees (ShowsExtraAt self.new) result (extra_step x (seen lexeme)) }
     {
@@ -151,7 +151,7 @@ impl ExtraSoFar {
     }
 
     /// The end of the pairs, or of the renames where there are none.
-    fn pairs_end(self, mode: Option<PairMode>) -> Result<ExtraCode, StepFault>
+    fn pairs_end(self, mode: Option<PairMode>) -> Result<ExtraCode, LexemeFault>
         ensures { (x : PairsState) → ShowsPairsAt self.pairs mode x
             → Agrees IsCodeOfExtra result (extra_ended (PairsWithin self.renames.items x)) }
     {
@@ -161,13 +161,13 @@ impl ExtraSoFar {
     }
 
     /// The end of all.
-    fn end(self, mode: ExtraMode) -> Result<ExtraCode, StepFault>
+    fn end(self, mode: ExtraMode) -> Result<ExtraCode, LexemeFault>
         ensures { (x : ExtraState) → ShowsExtraAt self mode x
             → Agrees IsCodeOfExtra result (extra_ended x) }
     {
         match mode {
             ExtraMode::InPairs(mode) => self.pairs_end(mode),
-            ExtraMode::NewWanted(_) => Err(StepFault::Syntax),
+            ExtraMode::NewWanted(_) => Err(LexemeFault::Syntax),
             ExtraMode::Renamed => self.pairs_end(None),
         }
     }
@@ -187,12 +187,12 @@ impl ExtraReader {
     }
 
     /// Goes on by one more lexeme.
-    fn go_on(&mut self, alloc: Global, lexeme: Lexeme) -> Result<(), StepFault>
+    fn go_on(&mut self, alloc: Global, lexeme: Lexeme) -> Result<(), LexemeFault>
         ensures { (x : ExtraState) → ShowsExtra self.old x
             → Agrees ShowsExtra (leaving self.new result) (when (permits Allowed (seen lexeme)) (extra_step x (seen lexeme))) }
     {
         if !permits(Dots::Allowed, &lexeme) {
-            return Err(StepFault::Syntax);
+            return Err(LexemeFault::Syntax);
         }
         let mode = mem::replace(&mut self.mode, ExtraMode::Renamed);
         self.mode = self.extra.step(alloc, mode, lexeme)?;
@@ -205,11 +205,11 @@ impl LexemeReader for ExtraReader {
 
     ghost comes = { ExtraComes };
 
-    fn step(&mut self, alloc: Global, lexeme: Lexeme) -> Result<(), StepFault> {
+    fn step(&mut self, alloc: Global, lexeme: Lexeme) -> Result<(), LexemeFault> {
         self.go_on(alloc, lexeme)
     }
 
-    fn end(self) -> Result<ExtraCode, StepFault> {
+    fn end(self) -> Result<ExtraCode, LexemeFault> {
         self.extra.end(self.mode)
     }
 }

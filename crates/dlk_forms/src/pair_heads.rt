@@ -15,7 +15,7 @@ ghost use Rattle.dlk_reader.specs.Shows.{seen, space_of, Agrees};
 ghost use Rattle.dlk_forms.specs.PairReaders.{target_of, left_state, IsLeft};
 
 use crate::pairs::PairMode;
-use dlk_reader::{Lexeme, StepFault};
+use dlk_reader::{Lexeme, LexemeFault};
 use dlk_tree::{Kind, Name, Sort, Sym};
 
 /// How many argument dots there are: `._0` to `._7`.
@@ -125,7 +125,7 @@ fn target_ends(term: bool, target: Target) -> PairMode
 }
 
 /// A lexeme behind the name of a function or a predicate.
-fn target_step(term: bool, name: Name, lexeme: Lexeme) -> Result<PairMode, StepFault>
+fn target_step(term: bool, name: Name, lexeme: Lexeme) -> Result<PairMode, LexemeFault>
     ensures agrees { Agrees IsLeft result (target_step term name (seen lexeme)) }
     ensures owed { Owes result (target_step term name (seen lexeme)) }
 {
@@ -133,12 +133,12 @@ fn target_step(term: bool, name: Name, lexeme: Lexeme) -> Result<PairMode, StepF
         Lexeme::Open => Ok(PairMode::Left(LeftMode::Calls { term, name })),
         Lexeme::RoundBars => Ok(target_ends(term, Target::Unit { name, taboo: None })),
         Lexeme::RoundBar => Ok(PairMode::Left(LeftMode::Bars { term, name })),
-        _ => Err(StepFault::Syntax),
+        _ => Err(LexemeFault::Syntax),
     }
 }
 
 /// A lexeme behind the name with which a pair begins.
-fn name_step(name: Name, lexeme: Lexeme) -> Result<PairMode, StepFault>
+fn name_step(name: Name, lexeme: Lexeme) -> Result<PairMode, LexemeFault>
     ensures agrees { Agrees IsLeft result (pair_step (LeftName name) (seen lexeme)) }
     ensures owed { Owes result (pair_step (LeftName name) (seen lexeme)) }
 {
@@ -147,7 +147,7 @@ fn name_step(name: Name, lexeme: Lexeme) -> Result<PairMode, StepFault>
             if is_term_word(&name) {
                 Ok(PairMode::Left(LeftMode::TermName(second)))
             } else {
-                Err(StepFault::Syntax)
+                Err(LexemeFault::Syntax)
             }
         }
         Lexeme::OpenBrace(_) => Ok(PairMode::Left(LeftMode::InContext(name))),
@@ -160,34 +160,34 @@ fn name_step(name: Name, lexeme: Lexeme) -> Result<PairMode, StepFault>
 }
 
 /// An argument dot behind so many others.
-fn next_dot(term: bool, name: Name, count: u8, dot: u8) -> Result<PairMode, StepFault>
+fn next_dot(term: bool, name: Name, count: u8, dot: u8) -> Result<PairMode, LexemeFault>
     ensures agrees { Agrees IsLeft result (when (dot == count) (Some (DotsOf term name (count + 1)))) }
     ensures owed { Owes result (when (dot == count) (Some (DotsOf term name (count + 1)))) }
 {
     if dot != count {
-        return Err(StepFault::Syntax);
+        return Err(LexemeFault::Syntax);
     }
     match count.checked_add(1) {
         Some(count) => Ok(PairMode::Left(LeftMode::DotsOf { term, name, count })),
         // no text has so many argument dots
-        None => Err(StepFault::Memory),
+        None => Err(LexemeFault::Memory),
     }
 }
 
 /// A lexeme behind `x (`.
-fn call_step(term: bool, name: Name, lexeme: Lexeme) -> Result<PairMode, StepFault>
+fn call_step(term: bool, name: Name, lexeme: Lexeme) -> Result<PairMode, LexemeFault>
     ensures agrees { Agrees IsLeft result (pair_step (Calls term name) (seen lexeme)) }
     ensures owed { Owes result (pair_step (Calls term name) (seen lexeme)) }
 {
     match lexeme {
         Lexeme::Close => Ok(target_ends(term, Target::Over { name, arity: 0 })),
         Lexeme::Dot(dot) => next_dot(term, name, 0, dot),
-        _ => Err(StepFault::Syntax),
+        _ => Err(LexemeFault::Syntax),
     }
 }
 
 /// A lexeme behind so many argument dots.
-fn dots_step(term: bool, name: Name, count: u8, lexeme: Lexeme) -> Result<PairMode, StepFault>
+fn dots_step(term: bool, name: Name, count: u8, lexeme: Lexeme) -> Result<PairMode, LexemeFault>
     ensures agrees { Agrees IsLeft result (pair_step (DotsOf term name count) (seen lexeme)) }
     ensures owed { Owes result (pair_step (DotsOf term name count) (seen lexeme)) }
 {
@@ -196,7 +196,7 @@ fn dots_step(term: bool, name: Name, count: u8, lexeme: Lexeme) -> Result<PairMo
             Ok(PairMode::Left(LeftMode::DotWanted { term, name, count }))
         }
         Lexeme::Close => Ok(target_ends(term, Target::Over { name, arity: count })),
-        _ => Err(StepFault::Syntax),
+        _ => Err(LexemeFault::Syntax),
     }
 }
 
@@ -216,48 +216,48 @@ fn flow_ends(name: Name, taboo: Option<Name>) -> PairMode
 }
 
 /// A lexeme behind `{ x`.
-fn flow_step(name: Name, lexeme: Lexeme) -> Result<PairMode, StepFault>
+fn flow_step(name: Name, lexeme: Lexeme) -> Result<PairMode, LexemeFault>
     ensures agrees { Agrees IsLeft result (pair_step (FlowName name) (seen lexeme)) }
     ensures owed { Owes result (pair_step (FlowName name) (seen lexeme)) }
 {
     match lexeme {
         Lexeme::CloseBrace => Ok(flow_ends(name, None)),
         Lexeme::BraceBar => Ok(PairMode::Left(LeftMode::FlowBar(name))),
-        _ => Err(StepFault::Syntax),
+        _ => Err(LexemeFault::Syntax),
     }
 }
 
 /// A lexeme where a pair begins.
-fn begin_step(lexeme: Lexeme) -> Result<PairMode, StepFault>
+fn begin_step(lexeme: Lexeme) -> Result<PairMode, LexemeFault>
     ensures agrees { Agrees IsLeft result (pair_step Begins (seen lexeme)) }
     ensures owed { Owes result (pair_step Begins (seen lexeme)) }
 {
     match lexeme {
         Lexeme::Name(_, name) => Ok(PairMode::Left(LeftMode::LeftName(name))),
         Lexeme::OpenBrace(_) => Ok(PairMode::Left(LeftMode::FlowOpens)),
-        _ => Err(StepFault::Syntax),
+        _ => Err(LexemeFault::Syntax),
     }
 }
 
 /// A lexeme where an argument dot is wanted behind so many others.
-fn dot_step(term: bool, name: Name, count: u8, lexeme: Lexeme) -> Result<PairMode, StepFault>
+fn dot_step(term: bool, name: Name, count: u8, lexeme: Lexeme) -> Result<PairMode, LexemeFault>
     ensures agrees { Agrees IsLeft result (pair_step (DotWanted term name count) (seen lexeme)) }
     ensures owed { Owes result (pair_step (DotWanted term name count) (seen lexeme)) }
 {
     match lexeme {
         Lexeme::Dot(dot) => next_dot(term, name, count, dot),
-        _ => Err(StepFault::Syntax),
+        _ => Err(LexemeFault::Syntax),
     }
 }
 
 /// A lexeme behind `x (|`.
-fn bars_step(term: bool, name: Name, lexeme: Lexeme) -> Result<PairMode, StepFault>
+fn bars_step(term: bool, name: Name, lexeme: Lexeme) -> Result<PairMode, LexemeFault>
     ensures agrees { Agrees IsLeft result (pair_step (Bars term name) (seen lexeme)) }
     ensures owed { Owes result (pair_step (Bars term name) (seen lexeme)) }
 {
     match lexeme {
         Lexeme::Name(_, taboo) => Ok(PairMode::Left(LeftMode::BarsName { term, name, taboo })),
-        _ => Err(StepFault::Syntax),
+        _ => Err(LexemeFault::Syntax),
     }
 }
 
@@ -267,7 +267,7 @@ fn bars_name_step(
     name: Name,
     taboo: Name,
     lexeme: Lexeme,
-) -> Result<PairMode, StepFault>
+) -> Result<PairMode, LexemeFault>
     ensures agrees { Agrees IsLeft result (pair_step (BarsName term name taboo) (seen lexeme)) }
     ensures owed { Owes result (pair_step (BarsName term name taboo) (seen lexeme)) }
 {
@@ -276,78 +276,78 @@ fn bars_name_step(
             let taboo = Some(taboo);
             Ok(target_ends(term, Target::Unit { name, taboo }))
         }
-        _ => Err(StepFault::Syntax),
+        _ => Err(LexemeFault::Syntax),
     }
 }
 
 /// A lexeme behind `x {`.
-fn context_step(name: Name, lexeme: Lexeme) -> Result<PairMode, StepFault>
+fn context_step(name: Name, lexeme: Lexeme) -> Result<PairMode, LexemeFault>
     ensures agrees { Agrees IsLeft result (pair_step (InContext name) (seen lexeme)) }
     ensures owed { Owes result (pair_step (InContext name) (seen lexeme)) }
 {
     match lexeme {
         Lexeme::Blank => Ok(PairMode::Left(LeftMode::ContextHole(name))),
-        _ => Err(StepFault::Syntax),
+        _ => Err(LexemeFault::Syntax),
     }
 }
 
 /// A lexeme behind `x { _`.
-fn hole_step(name: Name, lexeme: Lexeme) -> Result<PairMode, StepFault>
+fn hole_step(name: Name, lexeme: Lexeme) -> Result<PairMode, LexemeFault>
     ensures agrees { Agrees IsLeft result (pair_step (ContextHole name) (seen lexeme)) }
     ensures owed { Owes result (pair_step (ContextHole name) (seen lexeme)) }
 {
     match lexeme {
         Lexeme::CloseBrace => Ok(context_ends(name)),
-        _ => Err(StepFault::Syntax),
+        _ => Err(LexemeFault::Syntax),
     }
 }
 
 /// A lexeme behind `{`.
-fn open_step(lexeme: Lexeme) -> Result<PairMode, StepFault>
+fn open_step(lexeme: Lexeme) -> Result<PairMode, LexemeFault>
     ensures agrees { Agrees IsLeft result (pair_step FlowOpens (seen lexeme)) }
     ensures owed { Owes result (pair_step FlowOpens (seen lexeme)) }
 {
     match lexeme {
         Lexeme::Name(_, name) => Ok(PairMode::Left(LeftMode::FlowName(name))),
-        _ => Err(StepFault::Syntax),
+        _ => Err(LexemeFault::Syntax),
     }
 }
 
 /// A lexeme behind `{ x {|`.
-fn flow_bar_step(name: Name, lexeme: Lexeme) -> Result<PairMode, StepFault>
+fn flow_bar_step(name: Name, lexeme: Lexeme) -> Result<PairMode, LexemeFault>
     ensures agrees { Agrees IsLeft result (pair_step (FlowBar name) (seen lexeme)) }
     ensures owed { Owes result (pair_step (FlowBar name) (seen lexeme)) }
 {
     match lexeme {
         Lexeme::Name(_, taboo) => Ok(PairMode::Left(LeftMode::FlowBarName { name, taboo })),
-        _ => Err(StepFault::Syntax),
+        _ => Err(LexemeFault::Syntax),
     }
 }
 
 /// A lexeme behind `{ x {| y`.
-fn flow_bar_name_step(name: Name, taboo: Name, lexeme: Lexeme) -> Result<PairMode, StepFault>
+fn flow_bar_name_step(name: Name, taboo: Name, lexeme: Lexeme) -> Result<PairMode, LexemeFault>
     ensures agrees { Agrees IsLeft result (pair_step (FlowBarName name taboo) (seen lexeme)) }
     ensures owed { Owes result (pair_step (FlowBarName name taboo) (seen lexeme)) }
 {
     match lexeme {
         Lexeme::BarBrace => Ok(PairMode::Left(LeftMode::FlowExcept { name, taboo })),
-        _ => Err(StepFault::Syntax),
+        _ => Err(LexemeFault::Syntax),
     }
 }
 
 /// A lexeme behind `{ x {| y |}`.
-fn flow_except_step(name: Name, taboo: Name, lexeme: Lexeme) -> Result<PairMode, StepFault>
+fn flow_except_step(name: Name, taboo: Name, lexeme: Lexeme) -> Result<PairMode, LexemeFault>
     ensures agrees { Agrees IsLeft result (pair_step (FlowExcept name taboo) (seen lexeme)) }
     ensures owed { Owes result (pair_step (FlowExcept name taboo) (seen lexeme)) }
 {
     match lexeme {
         Lexeme::CloseBrace => Ok(flow_ends(name, Some(taboo))),
-        _ => Err(StepFault::Syntax),
+        _ => Err(LexemeFault::Syntax),
     }
 }
 
 /// What a lexeme makes of a left side.
-pub(crate) fn left_step(mode: LeftMode, lexeme: Lexeme) -> Result<PairMode, StepFault>
+pub(crate) fn left_step(mode: LeftMode, lexeme: Lexeme) -> Result<PairMode, LexemeFault>
     ensures agrees { Agrees IsLeft result (pair_step (left_state mode) (seen lexeme)) }
     ensures owed { Owes result (pair_step (left_state mode) (seen lexeme)) }
 {

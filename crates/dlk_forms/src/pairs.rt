@@ -20,7 +20,7 @@ use crate::dots::permits;
 use crate::pair_heads::{LeftMode, Right, Target, function, left_step, predicate};
 use dlk_grammar::{Dots, Infix};
 use dlk_reader::{
-    Code, Comma, Equations, Last, Lexeme, LexemeReader, Mode, Stack, StepFault, Tail,
+    Code, Comma, Equations, Last, Lexeme, LexemeFault, LexemeReader, Mode, Stack, Tail,
 };
 use dlk_tree::{Sort, Sym};
 use std::alloc::Global;
@@ -65,7 +65,7 @@ pub(crate) struct PairsReader {
 }
 
 /// A lexeme behind a whole left side.
-fn right_begins(right: Right, lexeme: Lexeme) -> Result<PairMode, StepFault>
+fn right_begins(right: Right, lexeme: Lexeme) -> Result<PairMode, LexemeFault>
     ensures { (r : TheReader) (l : List PairPhrase) → Rests r l
         → Agrees (ShowsPair r l) result (pair_step (LeftEnds (wants right)) (seen lexeme)) }
 {
@@ -74,12 +74,12 @@ fn right_begins(right: Right, lexeme: Lexeme) -> Result<PairMode, StepFault>
             Right::SystemOf(symbol) => PairMode::BraceWanted(symbol),
             right => PairMode::InRight(right, Mode::Wants),
         }),
-        _ => Err(StepFault::Syntax),
+        _ => Err(LexemeFault::Syntax),
     }
 }
 
 /// A lexeme where the brace of a system is wanted.
-fn brace_step(alloc: Global, symbol: Sym, lexeme: Lexeme) -> Result<PairMode, StepFault>
+fn brace_step(alloc: Global, symbol: Sym, lexeme: Lexeme) -> Result<PairMode, LexemeFault>
     ensures { (r : TheReader) (l : List PairPhrase) → Rests r l
         → Agrees (ShowsPair r l) result (pair_step (BraceWanted symbol) (seen lexeme)) }
 {
@@ -88,7 +88,7 @@ fn brace_step(alloc: Global, symbol: Sym, lexeme: Lexeme) -> Result<PairMode, St
             let equations = Equations::new(alloc, at)?;
             Ok(PairMode::InSystem(symbol, Mode::WantsItem(equations)))
         }
-        _ => Err(StepFault::Syntax),
+        _ => Err(LexemeFault::Syntax),
     }
 }
 
@@ -115,7 +115,7 @@ fn symbol_as(target: Target, sort: Sort) -> Sym
 }
 
 /// A right side is whole: the symbol of its pair.
-fn settle_right(stack: &mut Stack, right: Right, last: Last) -> Result<Sym, StepFault>
+fn settle_right(stack: &mut Stack, right: Right, last: Last) -> Result<Sym, LexemeFault>
     ensures { (S : List MachinePart) (p : Piece) → Stands stack.old last S p
         → Agrees (IsPairOf stack.new) result (right_whole (wants right) S p) }
 {
@@ -128,7 +128,7 @@ fn settle_right(stack: &mut Stack, right: Right, last: Last) -> Result<Sym, Step
             stack.settle_whole(sort, last)?;
             Ok(symbol)
         }
-        Right::SystemOf(_) => Err(StepFault::Syntax),
+        Right::SystemOf(_) => Err(LexemeFault::Syntax),
     }
 }
 
@@ -160,7 +160,7 @@ fn is_system(stack: &Stack, mode: &Mode) -> bool
 
 impl PairsSoFar {
     /// A pair is whole: its symbol, and its right side on the stack.
-    fn keep(&mut self, symbol: Sym) -> Result<(), StepFault>
+    fn keep(&mut self, symbol: Sym) -> Result<(), LexemeFault>
         ensures { (l : List PairPhrase) (t : Phrase) → KeepsPairs self.old l → IsWhole self.old.stack t
             → Agrees (λ _ m. Rests self.new m) result (Some (l ++ to symbol t ∷ [])) }
     {
@@ -169,7 +169,7 @@ impl PairsSoFar {
     }
 
     /// A pair with a right side that was read last is whole.
-    fn keep_right(&mut self, right: Right, last: Last) -> Result<(), StepFault>
+    fn keep_right(&mut self, right: Right, last: Last) -> Result<(), LexemeFault>
         ensures { (l : List PairPhrase) (S : List MachinePart) (p : Piece) → KeepsPairs self.old l → Stands self.old.stack last S p
             → Agrees (λ _ m. Rests self.new m) result (with_pair l (right_whole (wants right) S p)) }
     {
@@ -178,12 +178,12 @@ impl PairsSoFar {
     }
 
     /// The end of a right side.
-    fn end_right(&mut self, right: Right, mode: Mode) -> Result<(), StepFault>
+    fn end_right(&mut self, right: Right, mode: Mode) -> Result<(), LexemeFault>
         ensures { (l : List PairPhrase) (x : State) → KeepsPairs self.old l → Shows self.old.stack mode x
             → Agrees (λ _ m. Rests self.new m) result (with_pair l (right_ended (wants right) x)) }
     {
         let Mode::Has(last) = mode else {
-            return Err(StepFault::Syntax);
+            return Err(LexemeFault::Syntax);
         };
         let last = self.stack.reduce(0, last)?;
         self.keep_right(right, last)
@@ -196,7 +196,7 @@ impl PairsSoFar {
         right: Right,
         mode: Mode,
         lexeme: Lexeme,
-    ) -> Result<PairMode, StepFault>
+    ) -> Result<PairMode, LexemeFault>
         ensures { (l : List PairPhrase) (x : State) → KeepsPairs self.old l → Shows self.old.stack mode x
             → Agrees (ShowsPair self.new l) result (pair_step (InRight (wants right) x) (seen lexeme)) }
     {
@@ -212,12 +212,12 @@ impl PairsSoFar {
         symbol: Sym,
         mode: Mode,
         lexeme: Lexeme,
-    ) -> Result<PairMode, StepFault>
+    ) -> Result<PairMode, LexemeFault>
         ensures { (l : List PairPhrase) (x : State) → KeepsPairs self.old l → Shows self.old.stack mode x
             → Agrees (ShowsPair self.new l) result (pair_step (InSystem symbol x) (seen lexeme)) }
     {
         if is_and(&lexeme) {
-            return Err(StepFault::Syntax);
+            return Err(LexemeFault::Syntax);
         }
         let mode = self.stack.step(alloc, Sort::Program, mode, lexeme)?;
         if is_system(&self.stack, &mode) {
@@ -232,7 +232,7 @@ impl PairsSoFar {
         alloc: Global,
         mode: PairMode,
         lexeme: Lexeme,
-    ) -> Result<PairMode, StepFault>
+    ) -> Result<PairMode, LexemeFault>
         ensures { (l : List PairPhrase) (x : PairState) → ShowsPair self.old l mode x
             → Agrees (ShowsPair self.new l) result (pair_step x (seen lexeme)) }
     {
@@ -242,7 +242,7 @@ impl PairsSoFar {
             PairMode::InRight(right, mode) => self.right_step(alloc, right, mode, lexeme),
             PairMode::BraceWanted(symbol) => brace_step(alloc, symbol, lexeme),
             PairMode::InSystem(symbol, mode) => self.system_step(alloc, symbol, mode, lexeme),
-            PairMode::SystemEnds(_) => Err(StepFault::Syntax),
+            PairMode::SystemEnds(_) => Err(LexemeFault::Syntax),
         }
     }
 
@@ -252,7 +252,7 @@ impl PairsSoFar {
         alloc: Global,
         right: Right,
         mode: Mode,
-    ) -> Result<PairMode, StepFault>
+    ) -> Result<PairMode, LexemeFault>
         ensures { (l : List PairPhrase) (x : State) → KeepsPairs self.old l → Shows self.old.stack mode x
             → Agrees (ShowsWithin self.new) result (pairs_step (Within l (InRight (wants right) x)) CommaLexeme) }
     {
@@ -267,7 +267,7 @@ impl PairsSoFar {
     }
 
     /// A comma behind a pair, or in it.
-    fn comma_step(&mut self, alloc: Global, mode: PairMode) -> Result<PairMode, StepFault>
+    fn comma_step(&mut self, alloc: Global, mode: PairMode) -> Result<PairMode, LexemeFault>
         ensures { (l : List PairPhrase) (x : PairState) → ShowsPair self.old l mode x
             → Agrees (ShowsWithin self.new) result (pairs_step (Within l x) CommaLexeme) }
     {
@@ -287,7 +287,7 @@ impl PairsSoFar {
         alloc: Global,
         mode: Option<PairMode>,
         lexeme: Lexeme,
-    ) -> Result<PairMode, StepFault>
+    ) -> Result<PairMode, LexemeFault>
         ensures { (x : PairsState) → ShowsPairsAt self.old mode x
             → Agrees (ShowsWithin self.new) result (pairs_step x (seen lexeme)) }
     {
@@ -301,22 +301,22 @@ impl PairsSoFar {
     }
 
     /// The last pair ends.
-    fn finish(&mut self, mode: PairMode) -> Result<(), StepFault>
+    fn finish(&mut self, mode: PairMode) -> Result<(), LexemeFault>
         ensures { (l : List PairPhrase) (x : PairState) → ShowsPair self.old l mode x
             → Agrees (λ _ m. Rests self.new m) result (pairs_ended (Within l x)) }
     {
         match mode {
             PairMode::InRight(right, mode) => self.end_right(right, mode),
             PairMode::SystemEnds(symbol) => self.keep(symbol),
-            PairMode::Left(_) => Err(StepFault::Syntax),
-            PairMode::LeftEnds(_) => Err(StepFault::Syntax),
-            PairMode::BraceWanted(_) => Err(StepFault::Syntax),
-            PairMode::InSystem(_, _) => Err(StepFault::Syntax),
+            PairMode::Left(_) => Err(LexemeFault::Syntax),
+            PairMode::LeftEnds(_) => Err(LexemeFault::Syntax),
+            PairMode::BraceWanted(_) => Err(LexemeFault::Syntax),
+            PairMode::InSystem(_, _) => Err(LexemeFault::Syntax),
         }
     }
 
     /// The end of a substitution.
-    pub(crate) fn end(self, mode: Option<PairMode>) -> Result<PairsCode, StepFault>
+    pub(crate) fn end(self, mode: Option<PairMode>) -> Result<PairsCode, LexemeFault>
         ensures { (x : PairsState) → ShowsPairsAt self mode x
             → Agrees IsCodeOfPairs result (pairs_ended x) }
     {
@@ -345,18 +345,18 @@ impl PairsReader {
     }
 
     /// Goes on by one more lexeme.
-    fn go_on(&mut self, alloc: Global, lexeme: Lexeme) -> Result<(), StepFault>
+    fn go_on(&mut self, alloc: Global, lexeme: Lexeme) -> Result<(), LexemeFault>
         ensures { (x : PairsState) → ShowsPairs self.old x
             → Agrees ShowsPairs (leaving self.new result) (when (permits Allowed (seen lexeme)) (pairs_step x (seen lexeme))) }
     {
         if !permits(Dots::Allowed, &lexeme) {
-            return Err(StepFault::Syntax);
+            return Err(LexemeFault::Syntax);
         }
         self.go_on_permitted(alloc, lexeme)
     }
 
     /// Goes on by one more lexeme, which is permitted. In a right side only where that is read changes.
-    fn go_on_permitted(&mut self, alloc: Global, lexeme: Lexeme) -> Result<(), StepFault>
+    fn go_on_permitted(&mut self, alloc: Global, lexeme: Lexeme) -> Result<(), LexemeFault>
         ensures { (x : PairsState) → ShowsPairs self.old x
             → Agrees ShowsPairs (leaving self.new result) (pairs_step x (seen lexeme)) }
     {
@@ -379,11 +379,11 @@ impl LexemeReader for PairsReader {
 
     ghost comes = { PairsComes };
 
-    fn step(&mut self, alloc: Global, lexeme: Lexeme) -> Result<(), StepFault> {
+    fn step(&mut self, alloc: Global, lexeme: Lexeme) -> Result<(), LexemeFault> {
         self.go_on(alloc, lexeme)
     }
 
-    fn end(self) -> Result<PairsCode, StepFault> {
+    fn end(self) -> Result<PairsCode, LexemeFault> {
         self.pairs.end(self.mode)
     }
 }

@@ -17,8 +17,8 @@ use std::alloc::Global;
 ///
 /// # Errors
 ///
-/// `BadByte` comes exactly where the bytes aren't all tokens. Else `Syntax` comes exactly where the tokens stop as a text of the form: the byte of the first token at which no text goes on. `Memory` comes
-/// where memory runs out.
+/// `BadByte` comes exactly where the bytes aren't all tokens. Else `Syntax` comes exactly where the tokens stop as a
+/// text of the form: the byte of the first token at which no text goes on. `Memory` comes where memory runs out.
 pub fn read_tree(
     alloc: Global,
     form: Form,
@@ -35,8 +35,8 @@ pub fn read_tree(
 ///
 /// # Errors
 ///
-/// `BadByte` comes exactly where the bytes aren't all tokens. Else `Syntax` comes exactly where the tokens stop as a sequent: the byte of the first token at which none goes on. `Memory` comes where
-/// memory runs out.
+/// `BadByte` comes exactly where the bytes aren't all tokens. Else `Syntax` comes exactly where the tokens stop as a
+/// sequent: the byte of the first token at which none goes on. `Memory` comes where memory runs out.
 pub fn read_sides(alloc: Global, source: &mut Source<'_>) -> Result<SidesCode, Stop>
     requires { HasTaken source.old.origin [] source.old }
     ensures { ReadsAll AnswersSides source.old.origin source.new result }
@@ -48,8 +48,8 @@ pub fn read_sides(alloc: Global, source: &mut Source<'_>) -> Result<SidesCode, S
 ///
 /// # Errors
 ///
-/// `BadByte` comes exactly where the bytes aren't all tokens. Else `Syntax` comes exactly where the tokens stop as a substitution: the byte of the first token at which none goes on. `Memory` comes where
-/// memory runs out.
+/// `BadByte` comes exactly where the bytes aren't all tokens. Else `Syntax` comes exactly where the tokens stop as a
+/// substitution: the byte of the first token at which none goes on. `Memory` comes where memory runs out.
 pub fn read_pairs(alloc: Global, source: &mut Source<'_>) -> Result<PairsCode, Stop>
     requires { HasTaken source.old.origin [] source.old }
     ensures { ReadsAll AnswersPairs source.old.origin source.new result }
@@ -61,8 +61,8 @@ pub fn read_pairs(alloc: Global, source: &mut Source<'_>) -> Result<PairsCode, S
 ///
 /// # Errors
 ///
-/// `BadByte` comes exactly where the bytes aren't all tokens. Else `Syntax` comes exactly where the tokens stop as renames and pairs: the byte of the first token at which none goes on. `Memory` comes
-/// where memory runs out.
+/// `BadByte` comes exactly where the bytes aren't all tokens. Else `Syntax` comes exactly where the tokens stop as
+/// renames and pairs: the byte of the first token at which none goes on. `Memory` comes where memory runs out.
 pub fn read_extra(alloc: Global, source: &mut Source<'_>) -> Result<ExtraCode, Stop>
     requires { HasTaken source.old.origin [] source.old }
     ensures { ReadsAll AnswersExtra source.old.origin source.new result }

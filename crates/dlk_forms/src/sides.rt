@@ -6,7 +6,7 @@ ghost use Rattle.dlk_grammar.specs.Readings.{permits};
 ghost use Rattle.dlk_machine.specs.Machine.{State, when};
 ghost use Rattle.dlk_machine.specs.Sequents.{Side, LeftSide, SequentState, Fresh, Reading, sequent_step, sequent_ended, turn, inner};
 ghost use Rattle.dlk_grammar.specs.Lexemes.{Comma as CommaLexeme, Turnstile};
-ghost use Rattle.dlk_reader.specs.declared.stop.StepFault.TheVariants.{Syntax};
+ghost use Rattle.dlk_reader.specs.declared.stop.LexemeFault.TheVariants.{Syntax};
 ghost use Rattle.dlk_reader.specs.Outcomes.{leaving};
 ghost use Rattle.dlk_reader.specs.Owed.{Owes};
 ghost use Rattle.dlk_reader.specs.Shows.{IsWhole, seen, Agrees};
@@ -14,7 +14,7 @@ ghost use Rattle.dlk_forms.specs.Readers.{ShowsBetween, ShowsReading, ShowsSides
 
 use crate::dots::permits;
 use dlk_grammar::Dots;
-use dlk_reader::{Code, Comma, Lexeme, LexemeReader, Mode, Stack, StepFault, one_more};
+use dlk_reader::{Code, Comma, Lexeme, LexemeFault, LexemeReader, Mode, Stack, one_more};
 use dlk_tree::Sort;
 use std::alloc::Global;
 
@@ -53,7 +53,7 @@ impl SidesSoFar {
         alloc: Global,
         mode: Mode,
         lexeme: Lexeme,
-    ) -> Result<Option<Mode>, StepFault>
+    ) -> Result<Option<Mode>, LexemeFault>
         ensures { (w : Side) (l : Phrases) (x : State) → ShowsReading self.old mode w l x
             → Agrees (ShowsSidesAt self.new) result (inner w l x (seen lexeme)) }
     {
@@ -61,7 +61,7 @@ impl SidesSoFar {
     }
 
     /// The formula on the stack is whole.
-    fn keep(&mut self) -> Result<(), StepFault>
+    fn keep(&mut self) -> Result<(), LexemeFault>
         ensures { (w : Side) (l : Phrases) (t : Phrase) → KeepsSide self.old w l → IsWhole self.old.stack t
             → Agrees (λ _ m. ShowsBetween self.new w m) result (Some (snoc l t)) }
     {
@@ -71,7 +71,7 @@ impl SidesSoFar {
     }
 
     /// The formula that is read ends.
-    fn finish(&mut self, mode: Mode) -> Result<(), StepFault>
+    fn finish(&mut self, mode: Mode) -> Result<(), LexemeFault>
         ensures { (w : Side) (l : Phrases) (x : State) → ShowsReading self.old mode w l x
             → Agrees (λ _ m. ShowsBetween self.new w m) result (finished l x) }
     {
@@ -80,7 +80,7 @@ impl SidesSoFar {
     }
 
     /// A comma behind a formula that is whole, or in one that is not.
-    fn step_comma(&mut self, alloc: Global, mode: Mode) -> Result<Option<Mode>, StepFault>
+    fn step_comma(&mut self, alloc: Global, mode: Mode) -> Result<Option<Mode>, LexemeFault>
         ensures { (w : Side) (l : Phrases) (x : State) → ShowsReading self.old mode w l x
             → Agrees (ShowsSidesAt self.new) result (sequent_step (Reading w l x) CommaLexeme) }
     {
@@ -95,13 +95,13 @@ impl SidesSoFar {
     }
 
     /// The left side ends.
-    fn turn(&mut self) -> Result<Option<Mode>, StepFault>
+    fn turn(&mut self) -> Result<Option<Mode>, LexemeFault>
         ensures agrees { (w : Side) (l : Phrases) → ShowsBetween self.old w l
             → Agrees (ShowsSidesAt self.new) result (turn w l) }
         ensures owed { (w : Side) (l : Phrases) → ShowsBetween self.old w l → Owes result (turn w l) }
     {
         if self.left.is_some() {
-            return Err(StepFault::Syntax);
+            return Err(LexemeFault::Syntax);
         }
         self.left = Some(self.number);
         self.number = 0;
@@ -109,7 +109,7 @@ impl SidesSoFar {
     }
 
     /// What `==>` makes of what was read.
-    fn step_turnstile(&mut self, mode: Option<Mode>) -> Result<Option<Mode>, StepFault>
+    fn step_turnstile(&mut self, mode: Option<Mode>) -> Result<Option<Mode>, LexemeFault>
         ensures { (x : SequentState) → ShowsSidesAt self.old mode x
             → Agrees (ShowsSidesAt self.new) result (sequent_step x Turnstile) }
     {
@@ -126,7 +126,7 @@ impl SidesSoFar {
         alloc: Global,
         mode: Option<Mode>,
         lexeme: Lexeme,
-    ) -> Result<Option<Mode>, StepFault>
+    ) -> Result<Option<Mode>, LexemeFault>
         ensures { (x : SequentState) → ShowsSidesAt self.old mode x
             → Agrees (ShowsSidesAt self.new) result (sequent_step x (seen lexeme)) }
     {
@@ -143,7 +143,7 @@ impl SidesSoFar {
     }
 
     /// Both sides, where nothing is read of a next formula.
-    fn both(self) -> Result<SidesCode, StepFault>
+    fn both(self) -> Result<SidesCode, LexemeFault>
         ensures agrees { (w : Side) (l : Phrases) → ShowsBetween self w l
             → Agrees IsCodeOf result (both_of w l) }
         ensures owed { (w : Side) (l : Phrases) → ShowsBetween self w l → Owes result (both_of w l) }
@@ -153,12 +153,12 @@ impl SidesSoFar {
                 left,
                 code: self.done,
             }),
-            None => Err(StepFault::Syntax),
+            None => Err(LexemeFault::Syntax),
         }
     }
 
     /// The end of a sequent.
-    fn end(self, mode: Option<Mode>) -> Result<SidesCode, StepFault>
+    fn end(self, mode: Option<Mode>) -> Result<SidesCode, LexemeFault>
         ensures { (x : SequentState) → ShowsSidesAt self mode x
             → Agrees IsCodeOf result (sequent_ended x) }
     {
@@ -186,13 +186,13 @@ impl SidesReader {
     }
 
     /// Goes on by one more lexeme.
-    fn go_on(&mut self, alloc: Global, lexeme: Lexeme) -> Result<(), StepFault>
+    fn go_on(&mut self, alloc: Global, lexeme: Lexeme) -> Result<(), LexemeFault>
         ensures agrees { (x : SequentState) → ShowsSides self.old x
             → Agrees ShowsSides (leaving self.new result) (when (permits Refused (seen lexeme)) (sequent_step x (seen lexeme))) }
         ensures owed { permits Refused (seen lexeme) ≡ false → result ≡ Err Syntax }
     {
         if !permits(Dots::Refused, &lexeme) {
-            return Err(StepFault::Syntax);
+            return Err(LexemeFault::Syntax);
         }
         let mode = self.mode.take();
         self.mode = self.sides.step(alloc, mode, lexeme)?;
@@ -205,11 +205,11 @@ impl LexemeReader for SidesReader {
 
     ghost comes = { SidesComes };
 
-    fn step(&mut self, alloc: Global, lexeme: Lexeme) -> Result<(), StepFault> {
+    fn step(&mut self, alloc: Global, lexeme: Lexeme) -> Result<(), LexemeFault> {
         self.go_on(alloc, lexeme)
     }
 
-    fn end(self) -> Result<SidesCode, StepFault> {
+    fn end(self) -> Result<SidesCode, LexemeFault> {
         self.sides.end(self.mode)
     }
 }

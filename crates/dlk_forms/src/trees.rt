@@ -13,7 +13,7 @@ ghost use Rattle.dlk_forms.specs.Readers.{ShowsPlace, ShowsTree, IsTreeCode, Tre
 use crate::dots::permits;
 use crate::expressions::{Place, end_tree, step_tree};
 use dlk_grammar::{Dots, Form};
-use dlk_reader::{Code, Lexeme, LexemeReader, Mode, Stack, StepFault};
+use dlk_reader::{Code, Lexeme, LexemeFault, LexemeReader, Mode, Stack};
 use dlk_tree::Sort;
 use std::alloc::Global;
 use std::mem;
@@ -51,12 +51,12 @@ impl TreeReader {
     }
 
     /// Goes on by one more lexeme. In a tree of a known sort only where it is read changes.
-    fn go_on(&mut self, alloc: Global, lexeme: Lexeme) -> Result<(), StepFault>
+    fn go_on(&mut self, alloc: Global, lexeme: Lexeme) -> Result<(), LexemeFault>
         ensures { (d : TheDots) (form : TheForm) (x : FormState form) → ShowsTree d form self.old x
             → Agrees (ShowsTree d form) (leaving self.new result) (when (permits d (seen lexeme)) (tree_step form x (seen lexeme))) }
     {
         if !permits(self.dots, &lexeme) {
-            return Err(StepFault::Syntax);
+            return Err(LexemeFault::Syntax);
         }
         if let Place::Of(sort, mode) = &mut self.place {
             return self.stack.go_on(alloc, *sort, mode, lexeme);
@@ -67,7 +67,7 @@ impl TreeReader {
     }
 
     /// The operators of the tree, at the end of its lexemes.
-    fn whole(self) -> Result<Vec<Code>, StepFault>
+    fn whole(self) -> Result<Vec<Code>, LexemeFault>
         ensures { (d : TheDots) (form : TheForm) (x : FormState form) → ShowsTree d form self x
             → Agrees IsTreeCode result (tree_ended form x) }
     {
@@ -86,11 +86,11 @@ impl LexemeReader for TreeReader {
 
     ghost comes = { TreeComes };
 
-    fn step(&mut self, alloc: Global, lexeme: Lexeme) -> Result<(), StepFault> {
+    fn step(&mut self, alloc: Global, lexeme: Lexeme) -> Result<(), LexemeFault> {
         self.go_on(alloc, lexeme)
     }
 
-    fn end(self) -> Result<Vec<Code>, StepFault> {
+    fn end(self) -> Result<Vec<Code>, LexemeFault> {
         self.whole()
     }
 }

@@ -63,7 +63,8 @@ mutual
     atom-holds : {n : ℕ} {x : Word} {s : List Lexeme} {l : Phrases} → ReadsList term s l → Reads atom (Name n x ∷ Open ∷ (s ++ Close ∷ [])) (Holds (Call n x l))
     atom-any : {n : ℕ} {x : Word} → Reads atom (Name n x ∷ RoundBars ∷ []) (Holds (Any x Everywhere))
     atom-except : {n m : ℕ} {x y : Word} → Reads atom (Name n x ∷ RoundBar ∷ Name m y ∷ BarRound ∷ []) (Holds (Any x (Except y)))
-    atom-context : {n m : ℕ} {x : Word} {s : List Lexeme} {a : Phrase} → Reads formula s a → Reads atom (Name n x ∷ OpenBrace m ∷ (s ++ CloseBrace ∷ [])) (Context x a)
+    atom-context : {n m : ℕ} {x : Word} {s : List Lexeme} {a : Phrase} → Reads formula s a →
+        Reads atom (Name n x ∷ OpenBrace m ∷ (s ++ CloseBrace ∷ [])) (Context x a)
     atom-bracket : {s : List Lexeme} {a : Phrase} → Reads formula s a → Reads atom (Open ∷ (s ++ Close ∷ [])) a
     atom-diff : {s : List Lexeme} {a : Phrase} → Reads formula s a → Reads atom (Open ∷ (s ++ Close ∷ Prime ∷ [])) (DiffF a)
     -- term = mul | term "+" mul | term "-" mul
@@ -104,10 +105,12 @@ mutual
     -- group = brace, then "*" or nothing, then inv or nothing, then ";" or nothing
     stmt-const : {n : ℕ} {x : Word} → Reads stmt (Name n x ∷ Semi ∷ []) (Const x)
     stmt-assign : {n : ℕ} {x : Word} {s : List Lexeme} {a : Phrase} → Reads term s a → Reads stmt (Name n x ∷ Gets ∷ (s ++ Semi ∷ [])) (Assign x false a)
-    stmt-assign_prime : {n : ℕ} {x : Word} {s : List Lexeme} {a : Phrase} → Reads term s a → Reads stmt (Name n x ∷ Prime ∷ Gets ∷ (s ++ Semi ∷ [])) (Assign x true a)
+    stmt-assign_prime : {n : ℕ} {x : Word} {s : List Lexeme} {a : Phrase} → Reads term s a →
+        Reads stmt (Name n x ∷ Prime ∷ Gets ∷ (s ++ Semi ∷ [])) (Assign x true a)
     stmt-any : {n : ℕ} {x : Word} → Reads stmt (Name n x ∷ Gets ∷ Op Mul ∷ Semi ∷ []) (AssignAny x)
     stmt-test : {s : List Lexeme} {a : Phrase} → Reads formula s a → Reads stmt (Query ∷ (s ++ Semi ∷ [])) (Test a)
-    stmt-group : {s q i e : List Lexeme} {a b c : Phrase} → ReadsBrace s a → ReadsStar q a b → ReadsInv i b c → ReadsSemi e → Reads stmt (s ++ (q ++ (i ++ e))) c
+    stmt-group : {s q i e : List Lexeme} {a b c : Phrase} → ReadsBrace s a → ReadsStar q a b → ReadsInv i b c → ReadsSemi e →
+        Reads stmt (s ++ (q ++ (i ++ e))) c
 
   -- cmp = "=" | "!=" | ">=" | ">" | "<=" | "<"
   pub data Compares : Infix → Type 0 where
@@ -127,7 +130,8 @@ mutual
   pub data ReadsBrace : List Lexeme → Phrase → Type 0 where
     brace-prog : {n : ℕ} {s : List Lexeme} {a : Phrase} → Reads prog s a → ReadsBrace (OpenBrace n ∷ (s ++ CloseBrace ∷ [])) a
     brace-items : {n : ℕ} {s : List Lexeme} {l : Items} → ReadsItems s l → ReadsBrace (OpenBrace n ∷ (s ++ CloseBrace ∷ [])) (System n l Truth)
-    brace-domain : {n : ℕ} {s r : List Lexeme} {l : Items} {a : Phrase} → ReadsItems s l → Reads formula r a → ReadsBrace (OpenBrace n ∷ (s ++ Op And ∷ (r ++ CloseBrace ∷ []))) (System n l a)
+    brace-domain : {n : ℕ} {s r : List Lexeme} {l : Items} {a : Phrase} → ReadsItems s l → Reads formula r a →
+        ReadsBrace (OpenBrace n ∷ (s ++ Op And ∷ (r ++ CloseBrace ∷ []))) (System n l a)
 
   -- item-list = item | item-list "," item
   pub data ReadsItems : List Lexeme → Items → Type 0 where

@@ -132,7 +132,8 @@ abbrev pub SpeaksAgainst : {P : Type 0} → (List Lexeme → P → Type 0) → (
 SpeaksAgainst G parts d tokens (Literal at) = FirstAt IsLong tokens at
 SpeaksAgainst G parts d tokens (Nesting at) = FirstAt OpensTooDeep tokens at
 SpeaksAgainst G parts d tokens (Syntax at) = (place : ℕ) × Stops d G (lexemes tokens) place × TokenAt tokens place at
-SpeaksAgainst {P} G parts d tokens (Shape at) = (p : P) × Says d G (lexemes tokens) p × ((place : ℕ) × (lowest (flat_map ills (parts p)) ≡ Some place) × TokenAt tokens place at)
+SpeaksAgainst {P} G parts d tokens (Shape at) = (p : P) × Says d G (lexemes tokens) p ×
+    ((place : ℕ) × (lowest (flat_map ills (parts p)) ≡ Some place) × TokenAt tokens place at)
 SpeaksAgainst {P} G parts d tokens (TooBig n) = (p : P) × Says d G (lexemes tokens) p × FirstPast size most_nodes (map erase (parts p)) n
 SpeaksAgainst {P} G parts d tokens (TooDeep n) = (p : P) × Says d G (lexemes tokens) p × FirstPast depth greatest_depth (map erase (parts p)) n
 
@@ -142,7 +143,8 @@ pub record IsReadFault {P : Type 0} (G : List Lexeme → P → Type 0) (parts : 
   pub first : (other : ReadFault) → fault_rank other < fault_rank why → ¬ SpeaksAgainst G parts d tokens other
 
 -- the tokens say this, and there is no fault
-pub record IsRead {P R : Type 0} (G : List Lexeme → P → Type 0) (parts : P → List Phrase) (d : Dots) (tokens : List Token) (value : P → R) (r : R) : Type 0 where
+pub record IsRead {P R : Type 0} (G : List Lexeme → P → Type 0) (parts : P → List Phrase) (d : Dots) (tokens : List Token) (value : P → R)
+    (r : R) : Type 0 where
   pub phrase : P
   pub says : Says d G (lexemes tokens) phrase
   pub value_is : value phrase ≡ r

@@ -226,7 +226,8 @@ inside (Some items) between kids texts =
 abbrev mutual
   -- the text of a tree, in brackets if its level is below the least one
   pub shown_at : ℕ → Tree → List Piece
-  shown_at n (node o kids) = bracketed (nat_lt (level o) n) (sort_of o) (opening o ++ (inside (items_of o) (between o) (trees_in kids) (shown_kids o 0 kids) ++ closing o))
+  shown_at n (node o kids) =
+      bracketed (nat_lt (level o) n) (sort_of o) (opening o ++ (inside (items_of o) (between o) (trees_in kids) (shown_kids o 0 kids) ++ closing o))
 
   -- the texts of the kids from place i on
   pub shown_kids : Op → ℕ → Forest → List (List Piece)

@@ -62,7 +62,8 @@ nested_imply_text : spell (shown (two op.Imply (two op.Imply (is_positive x) (is
 unfolding digits
 nested_imply_text = refl
 
-arithmetic_text : spell (shown (two op.Eq (two op.Sub (two op.Mul (tree op.Neg (two op.Pow x (number 2 0) ∷ [])) y) (tree op.Neg (number 1 0 ∷ []))) zero')) ≡ codes "-x^2*y--1=0"
+arithmetic_text : spell (shown (two op.Eq (two op.Sub (two op.Mul (tree op.Neg (two op.Pow x (number 2 0) ∷ [])) y) (tree op.Neg (number 1 0 ∷ []))) zero'))
+    ≡ codes "-x^2*y--1=0"
 unfolding digits
 arithmetic_text = refl
 
@@ -82,10 +83,15 @@ system_text : spell (shown (two op.Box motion (is_positive v))) ≡ codes "[{x'=
 unfolding digits
 system_text = refl
 
-undomained_text : spell (shown (tree (op.System (item.Const (symbol Ode (codes "c") 0 None) ∷ item.Evolve (codes "x") ∷ item.Const (symbol Ode (codes "d") 0 (Some (codes "y"))) ∷ [])) (v ∷ tree op.True [] ∷ []))) ≡ codes "{c,x'=v,d{|y|}}"
+undomained_text : spell (shown (tree
+    (op.System (item.Const (symbol Ode (codes "c") 0 None) ∷ item.Evolve (codes "x") ∷ item.Const (symbol Ode (codes "d") 0 (Some (codes "y"))) ∷ []))
+    (v ∷ tree op.True [] ∷ [])))
+    ≡ codes "{c,x'=v,d{|y|}}"
 undomained_text = refl
 
-program_text : spell (shown (two op.Box (tree op.Loop (two op.Seq (two op.Choice (set_a (variable (codes "A"))) (set_a zero')) motion ∷ [])) (is_positive v))) ≡ codes "[{{a:=A;++a:=0;}{x'=v,v'=a&v>=0}}*]v>=0"
+program_text : spell (shown (two op.Box
+    (tree op.Loop (two op.Seq (two op.Choice (set_a (variable (codes "A"))) (set_a zero')) motion ∷ [])) (is_positive v)))
+    ≡ codes "[{{a:=A;++a:=0;}{x'=v,v'=a&v>=0}}*]v>=0"
 unfolding digits
 program_text = refl
 
@@ -93,15 +99,25 @@ quantifier_text : spell (shown (tree (op.Forall (codes "x")) (is_positive x ∷ 
 unfolding digits
 quantifier_text = refl
 
-symbol_text : spell (shown (two op.Dia (two op.Choice (tree (op.Const (symbol Prog (codes "a") 0 None)) []) (tree op.Test (tree (op.Holds (symbol Pred (codes "p") 0 None)) [] ∷ []))) (two op.And (tree (op.UnitPred (symbol UnitPred (codes "q") 0 None)) []) (two op.Or (tree (op.Predicational (symbol Quant (codes "C") 0 None)) (tree op.Hole [] ∷ [])) (tree op.DiffF (tree op.False [] ∷ [])))))) ≡ codes "<a;++?p();>(q(||)&(C{_}|(false)'))"
+symbol_text : spell (shown (two op.Dia
+    (two op.Choice (tree (op.Const (symbol Prog (codes "a") 0 None)) []) (tree op.Test (tree (op.Holds (symbol Pred (codes "p") 0 None)) [] ∷ [])))
+    (two op.And (tree (op.UnitPred (symbol UnitPred (codes "q") 0 None)) [])
+    (two op.Or (tree (op.Predicational (symbol Quant (codes "C") 0 None)) (tree op.Hole [] ∷ [])) (tree op.DiffF (tree op.False [] ∷ []))))))
+    ≡ codes "<a;++?p();>(q(||)&(C{_}|(false)'))"
 unfolding digits
 symbol_text = refl
 
-application_text : spell (shown (two op.Ne (tree (op.Apply (symbol Func (codes "f") 2 None)) (two op.Add x y ∷ tree (op.Dot 0) [] ∷ [])) (tree op.Diff (tree (op.UnitFun (symbol UnitFunc (codes "g") 0 (Some (codes "y")))) [] ∷ [])))) ≡ codes "f(x+y,._0)!=(g(|y|))'"
+application_text : spell (shown (two op.Ne
+    (tree (op.Apply (symbol Func (codes "f") 2 None)) (two op.Add x y ∷ tree (op.Dot 0) [] ∷ []))
+    (tree op.Diff (tree (op.UnitFun (symbol UnitFunc (codes "g") 0 (Some (codes "y")))) [] ∷ []))))
+    ≡ codes "f(x+y,._0)!=(g(|y|))'"
 unfolding digits
 application_text = refl
 
-prime_text : spell (shown (tree op.Seq (tree (op.Assign (record { name = codes "x"; primed = true })) (tree (op.Variable (record { name = codes "x"; primed = true })) [] ∷ []) ∷ set_a x ∷ []))) ≡ codes "x':=x';a:=x;"
+prime_text : spell (shown (tree op.Seq
+    (tree (op.Assign (record { name = codes "x"; primed = true }))
+    (tree (op.Variable (record { name = codes "x"; primed = true })) [] ∷ []) ∷ set_a x ∷ [])))
+    ≡ codes "x':=x';a:=x;"
 prime_text = refl
 
 any_text : spell (shown (two op.Box (tree (op.Any (codes "x")) []) (is_positive x))) ≡ codes "[x:=*;]x>=0"

@@ -53,18 +53,22 @@ pub data ReadsTarget : List Lexeme → Target → Type 0 where
 pub data ReadsPair : List Lexeme → PairPhrase → Type 0 where
   -- a function's or a predicate's: behind the word `term` a function's, else a predicate's where its right side is a formula
   pair-formula : {s r : List Lexeme} {h : Target} {a : Phrase} → ReadsTarget s h → Reads formula r a → ReadsPair (s ++ Becomes ∷ r) (to (predicate h) a)
-  pair-term : {s r : List Lexeme} {h : Target} {a : Phrase} → ReadsTarget s h → Reads term r a → ((b : Phrase) → ¬ Reads formula r b) → ReadsPair (s ++ Becomes ∷ r) (to (function h) a)
-  pair-function : {n : ℕ} {w : Word} {s r : List Lexeme} {h : Target} {a : Phrase} → w ≡ codes "term" → ReadsTarget s h → Reads term r a → ReadsPair (Name n w ∷ (s ++ Becomes ∷ r)) (to (function h) a)
+  pair-term : {s r : List Lexeme} {h : Target} {a : Phrase} → ReadsTarget s h → Reads term r a → ((b : Phrase) → ¬ Reads formula r b) →
+      ReadsPair (s ++ Becomes ∷ r) (to (function h) a)
+  pair-function : {n : ℕ} {w : Word} {s r : List Lexeme} {h : Target} {a : Phrase} → w ≡ codes "term" → ReadsTarget s h → Reads term r a →
+      ReadsPair (Name n w ∷ (s ++ Becomes ∷ r)) (to (function h) a)
   -- name "{" "_" "}", a predicational's
   pair-context : {n m : ℕ} {x : Word} {r : List Lexeme} {a : Phrase} → Reads formula r a →
       ReadsPair (Name n x ∷ OpenBrace m ∷ Blank ∷ CloseBrace ∷ Becomes ∷ r) (to (symbol Quant x 0 Everywhere) a)
   -- name ";", a program constant's
-  pair-program : {n : ℕ} {x : Word} {r : List Lexeme} {a : Phrase} → Reads prog r a → ReadsPair (Name n x ∷ Semi ∷ Becomes ∷ r) (to (symbol Prog x 0 Everywhere) a)
+  pair-program : {n : ℕ} {x : Word} {r : List Lexeme} {a : Phrase} → Reads prog r a →
+      ReadsPair (Name n x ∷ Semi ∷ Becomes ∷ r) (to (symbol Prog x 0 Everywhere) a)
   -- "{" name "}" and "{" name "{|" name "|}" "}", an ODE constant's: its right side is a system without a domain
   pair-flow : {n m k : ℕ} {x : Word} {r : List Lexeme} {l : Items} → ReadsItems r l →
       ReadsPair (OpenBrace m ∷ Name n x ∷ CloseBrace ∷ Becomes ∷ OpenBrace k ∷ (r ++ CloseBrace ∷ [])) (to (symbol Ode x 0 Everywhere) (System k l Truth))
   pair-flow-except : {n m k j : ℕ} {x y : Word} {r : List Lexeme} {l : Items} → ReadsItems r l →
-      ReadsPair (OpenBrace m ∷ Name n x ∷ BraceBar ∷ Name j y ∷ BarBrace ∷ CloseBrace ∷ Becomes ∷ OpenBrace k ∷ (r ++ CloseBrace ∷ [])) (to (symbol Ode x 0 (Except y)) (System k l Truth))
+      ReadsPair (OpenBrace m ∷ Name n x ∷ BraceBar ∷ Name j y ∷ BarBrace ∷ CloseBrace ∷ Becomes ∷ OpenBrace k ∷ (r ++ CloseBrace ∷ []))
+      (to (symbol Ode x 0 (Except y)) (System k l Truth))
 
 -- pair-list = pair | pair-list "," pair
 pub data ReadsPairs : List Lexeme → List PairPhrase → Type 0 where

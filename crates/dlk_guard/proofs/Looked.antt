@@ -55,7 +55,8 @@ loose_begins parts now new t op kids e cost = rw e (omega (arith, cost))
 pub pairs_left : (trees : List Tree) (pairs : List Pair) (i : ℕ) (p : Pair) → p ≡ get_or pairs i p → i < length pairs →
     pairs_at trees (drop i pairs) ≡ pair_at trees p ∷ pairs_at trees (drop (i + 1) pairs)
 pairs_left trees pairs i p e h =
-    let parted : pairs_at trees (drop i pairs) ≡ pair_at trees (get_or pairs i p) ∷ pairs_at trees (drop (i + 1) pairs) = rw (drop-cons pairs i p, add-one) refl in
+    let parted : pairs_at trees (drop i pairs) ≡ pair_at trees (get_or pairs i p) ∷ pairs_at trees (drop (i + 1) pairs) =
+    rw (drop-cons pairs i p, add-one) refl in
     parted ∙ ap (λ q. pair_at trees q ∷ pairs_at trees (drop (i + 1) pairs)) (sym e)
 
 -- one pair more

@@ -77,7 +77,8 @@ good : di_why (di_of truth low) ≡ None
 good = refl
 
 -- No ODE constant is left: {c,x'=1} has one.
-constant_left : di_why (di (c_item ∷ evolve xs ∷ []) (number 1 ∷ []) truth low) ≡ Some (OdeConstant (record { kind = Ode; name = codes "c"; arity = 0; taboo = None }))
+constant_left : di_why (di (c_item ∷ evolve xs ∷ []) (number 1 ∷ []) truth low) ≡
+    Some (OdeConstant (record { kind = Ode; name = codes "c"; arity = 0; taboo = None }))
 constant_left = refl
 
 -- A formula is of connectives over comparisons:

@@ -6,7 +6,8 @@ ghost use Rattle.dlk_tree.specs.Table.{evolved};
 ghost use Rattle.dlk_tree.specs.Trees.{Tree, node};
 ghost use Rattle.dlk_store.specs.Stores.{IsId, tree, kid_trees};
 ghost use Rattle.dlk_guard.specs.Smooth.{domain_parts, is_smooth};
-ghost use Rattle.dlk_guard.specs.Instances.{first_constant, loose_in_op, first_loose, is_free_in, first_primed, di_conditions, system_items, di_why, dg_conditions, dg_why, instance_why, before_last};
+ghost use Rattle.dlk_guard.specs.Instances.{first_constant, loose_in_op, first_loose, is_free_in, first_primed, di_conditions, system_items, di_why};
+ghost use Rattle.dlk_guard.specs.Instances.{dg_conditions, dg_why, instance_why, before_last};
 ghost use Rattle.dlk_guard.specs.Looks.{smooth_looks, loose_looks, di_looks, dg_looks, instance_looks};
 
 use crate::parts::{domain_parts, is_frozen};
@@ -214,8 +215,10 @@ fn are_both_smooth<S: Store, L: Ledger>(
     requires domain { All (IsId (S.trees store.now)) domain.now }
     requires a { IsId (S.trees store.now) a }
     requires b { IsId (S.trees store.now) b }
-    ensures value { let parts = map (tree (S.trees store.now)) domain.now in result ≡ (is_smooth parts (tree (S.trees store.now) a) && is_smooth parts (tree (S.trees store.now) b)) }
-    ensures cost { steps.new ≤ steps.old + smooth_looks (length domain.now) (tree (S.trees store.now) a) + smooth_looks (length domain.now) (tree (S.trees store.now) b) }
+    ensures value { let parts = map (tree (S.trees store.now)) domain.now in
+        result ≡ (is_smooth parts (tree (S.trees store.now) a) && is_smooth parts (tree (S.trees store.now) b)) }
+    ensures cost { steps.new ≤
+        steps.old + smooth_looks (length domain.now) (tree (S.trees store.now) a) + smooth_looks (length domain.now) (tree (S.trees store.now) b) }
 {
     is_smooth(store, domain, a, steps) && is_smooth(store, domain, b, steps)
 }
@@ -228,7 +231,8 @@ fn dg_conditions<S: Store, L: Ledger>(
     steps: &mut Steps<L>,
 ) -> Result<Option<Why>, AllocError>
     requires { All (IsId (S.trees store.now)) kids.now }
-    ensures why { IfOk result (λ why. why ≡ dg_conditions (domain_parts (kid_trees (S.trees store.now) kids.now)) (before_last (kid_trees (S.trees store.now) kids.now))) }
+    ensures why { IfOk result (λ why.
+        why ≡ dg_conditions (domain_parts (kid_trees (S.trees store.now) kids.now)) (before_last (kid_trees (S.trees store.now) kids.now))) }
     ensures cost { steps.new ≤ steps.old + dg_looks (kid_trees (S.trees store.now) kids.now) }
 {
     let Some(side) = before_last(kids) else {

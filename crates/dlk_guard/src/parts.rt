@@ -3,7 +3,8 @@ ghost use Rattle.std.specs.Prelude.{◌≡◌, ◌+◌, ◌*◌, ◌≤◌, [], 
 ghost use Rattle.dlk_tree.specs.Trees.{Tree, size, size_all};
 ghost use Rattle.dlk_store.specs.Stores.{IsId, tree, kid_trees};
 ghost use Rattle.dlk_guard.specs.Ends.{AreEnds};
-ghost use Rattle.dlk_guard.specs.Smooth.{is_and, parts, domain_parts, is_zero, is_variable, is_apart, are_term_and_zero, keeps_off_zero, is_kept_off_zero, is_equation, says_constant, is_frozen};
+ghost use Rattle.dlk_guard.specs.Smooth.{is_and, parts, domain_parts, is_zero, is_variable, is_apart, are_term_and_zero, keeps_off_zero, is_kept_off_zero};
+ghost use Rattle.dlk_guard.specs.Smooth.{is_equation, says_constant, is_frozen};
 ghost use Rattle.dlk_tree.specs.Statics.{prime};
 
 use dlk_store::{Id, Steps, Store};
@@ -26,7 +27,8 @@ fn add_parts<S: Store, L: Ledger>(
 ) -> Result<(), AllocError>
     requires id { IsId (S.trees store.now) id }
     requires into { All (IsId (S.trees store.now)) into.old.items }
-    ensures parts { OnOk result (map (tree (S.trees store.now)) into.new.items ≡ map (tree (S.trees store.now)) into.old.items ++ parts (tree (S.trees store.now) id)) }
+    ensures parts { OnOk result (map (tree (S.trees store.now)) into.new.items ≡ map (tree (S.trees store.now)) into.old.items ++
+        parts (tree (S.trees store.now) id)) }
     ensures known { OnOk result (All (IsId (S.trees store.now)) into.new.items) }
     ensures cost { steps.new ≤ steps.old + size (tree (S.trees store.now) id) }
 {

@@ -3,7 +3,8 @@ ghost use Rattle.std.specs.Prelude.{◌≡◌, ◌+◌, ◌*◌, ◌≤◌, leng
 ghost use Rattle.dlk_tree.specs.Trees.{size, size_all};
 ghost use Rattle.dlk_store.specs.Stores.{IsId, tree, kid_trees};
 ghost use Rattle.dlk_calculus.specs.Kids.{last};
-ghost use Rattle.dlk_guard.specs.Smooth.{is_constant_op, is_constant, are_constant, is_whole, ends_in_divisor, joins_smooth, is_smooth, are_smooth, is_connective, is_smooth_formula};
+ghost use Rattle.dlk_guard.specs.Smooth.{is_constant_op, is_constant, are_constant, is_whole, ends_in_divisor, joins_smooth, is_smooth, are_smooth};
+ghost use Rattle.dlk_guard.specs.Smooth.{is_connective, is_smooth_formula};
 ghost use Rattle.dlk_guard.specs.Looks.{smooth_looks, smooth_looks_all};
 
 use crate::parts::is_kept_off_zero;

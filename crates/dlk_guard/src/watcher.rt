@@ -33,9 +33,11 @@ pub trait Watcher {
     ) -> Result<(), AllocError>
         requires step { HasKnownIds (S.trees store.now) step.now }
         requires conclusion { IsKnown (S.trees store.now) conclusion.now }
-        ensures ok { OnOk result (self.new ≡ after self.old (record { step = step_at (S.trees store.now) step.now; conclusion = sequent_at (S.trees store.now) conclusion.now })) }
+        ensures ok { OnOk result
+            (self.new ≡ after self.old (record { step = step_at (S.trees store.now) step.now; conclusion = sequent_at (S.trees store.now) conclusion.now })) }
         ensures err { OnErr result (self.new ≡ self.old) }
-        ensures cost { steps.new ≤ steps.old + looks (record { step = step_at (S.trees store.now) step.now; conclusion = sequent_at (S.trees store.now) conclusion.now }) };
+        ensures cost { steps.new ≤
+            steps.old + looks (record { step = step_at (S.trees store.now) step.now; conclusion = sequent_at (S.trees store.now) conclusion.now }) };
 }
 
 /// A watcher that sees nothing.

@@ -39,7 +39,8 @@ line_refused n why = refused_line (codes "line") n why
 -- refused: other-conclusion N, and both conclusions
 abbrev pub other_conclusion : ℕ → Tree → Sequent → Reply
 other_conclusion n f found = printing Refused
-    (line (codes "refused: other-conclusion " ++ decimal n) ++ line (codes "expected " ++ spell (shown_sequent (proves f))) ++ line (codes "found " ++ spell (shown_sequent found)))
+    (line (codes "refused: other-conclusion " ++ decimal n) ++ line (codes "expected " ++ spell (shown_sequent (proves f))) ++
+    line (codes "found " ++ spell (shown_sequent found)))
 
 -- ---- terms
 

@@ -15,6 +15,7 @@ ghost use Rattle.dlk_jobs_check.specs.Guards.{Guards, GuardSays, with_line_first
 use dlk_guard::first_or_guarded;
 
 /// A term is taken for a model in one way, or refused with one reply, and not both.
+/// The statement of the program's answers asks for it.
 pub fn taken_or_refused()
     ensures some { (model term : List ℕ) → ((reply : TheReply) × RefusesTerm model term reply)
         ⊎ ((steps : List Step) × (rows : List Provable) × (p : Provable) × TakesTerm model term steps rows p) }

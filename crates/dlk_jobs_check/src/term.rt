@@ -114,7 +114,8 @@ pub fn judge<S: Store, L: Ledger>(
     requires formula { IsId (S.trees kernel.now.store) formula }
     requires fact { IsPlace kernel.now.rows fact }
     ensures shown { OnOk result ((p : Provable) → At (facts S.trees kernel.now) fact p → p.conclusion ≡ proves (tree (S.trees kernel.now.store) formula)) }
-    ensures refused { IfErr result (EndsIn (λ reply. (p : Provable) → At (facts S.trees kernel.now) fact p → RefusesConclusion (tree (S.trees kernel.now.store) formula) line p reply)) }
+    ensures refused { IfErr result (EndsIn (λ reply. (p : Provable) → At (facts S.trees kernel.now) fact p →
+        RefusesConclusion (tree (S.trees kernel.now.store) formula) line p reply)) }
 {
     let found = kernel.conclusion(fact);
     if is_proof_of(kernel, found, formula) {

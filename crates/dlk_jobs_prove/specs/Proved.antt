@@ -33,4 +33,5 @@ RefusesStrategy text reply = (why : Fault) × StrategyFault text why × (reply �
 -- the run fails, or one more atom would be past the budget
 abbrev pub RefusesRun : (Outcome → Type 0) → Reply → Type 0
 RefusesRun becomes reply =
-    ((at : ℕ) × (used : ℕ) × (why : FailWhy) × becomes (Fails at why used) × (reply ≡ failed at why)) ⊎ ((at : ℕ) × becomes (Budget at) × (reply ≡ over_budget at))
+    ((at : ℕ) × (used : ℕ) × (why : FailWhy) × becomes (Fails at why used) × (reply ≡ failed at why)) ⊎
+    ((at : ℕ) × becomes (Budget at) × (reply ≡ over_budget at))

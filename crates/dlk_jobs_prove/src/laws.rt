@@ -51,6 +51,7 @@ pub fn proved_is_checked()
 
 /// `gen` is done or refuses, and its status never says that a proof is open. Where `prove` writes a term for what is generated, the answer sums up
 /// the very proof that `prove` reports, and no term that is written is refused.
+/// The statement of the program's answers asks for it.
 pub fn generated_is_checked()
     ensures status { (n : ℕ) (reply : TheReply) → Generates n reply → (reply.status ≡ Done) ⊎ (reply.status ≡ Refused) }
     ensures summary { (n : ℕ) (term : List ℕ) (reply proved : TheReply) → Proves (generated_model n) (generated_strategy n) proved →

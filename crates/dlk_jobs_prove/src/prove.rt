@@ -83,10 +83,12 @@ fn run<S: Store, L: Ledger>(
     requires formula { IsFormula (tree (S.trees kernel.old.store) formula) }
     requires small { IsSmall (tree (S.trees kernel.old.store) formula) }
     requires shallow { IsShallow (tree (S.trees kernel.old.store) formula) }
-    ensures done { IfOk result (λ done. (used : ℕ) × (left : ℕ) × RunsModel (tactic_at (S.trees kernel.old.store) tactic.now) (tree (S.trees kernel.old.store) formula) (IsDone (progress_at S.trees kernel.new done.steps.items used) left)) }
+    ensures done { IfOk result (λ done. (used : ℕ) × (left : ℕ) × RunsModel (tactic_at (S.trees kernel.old.store) tactic.now)
+        (tree (S.trees kernel.old.store) formula) (IsDone (progress_at S.trees kernel.new done.steps.items used) left)) }
     ensures fact { IfOk result (λ done. done.fact ≡ length kernel.new.rows) }
     ensures known { IfOk result (λ done. All (HasKnownIds (S.trees kernel.new.store)) done.steps.items) }
-    ensures refused { IfErr result (EndsIn (RefusesRun (RunsModel (tactic_at (S.trees kernel.old.store) tactic.now) (tree (S.trees kernel.old.store) formula)))) }
+    ensures refused { IfErr result
+        (EndsIn (RefusesRun (RunsModel (tactic_at (S.trees kernel.old.store) tactic.now) (tree (S.trees kernel.old.store) formula)))) }
     ensures grows { S.grows kernel.old.store kernel.new.store }
 {
     match run_strategy(alloc, tactic, kernel, formula, steps) {

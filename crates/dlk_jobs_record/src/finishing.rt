@@ -42,7 +42,8 @@ pub fn finish<S: Store, L: Ledger>(
     requires fact { IsPlace kernel.now.rows fact }
     requires known { All (HasKnownIds (S.trees kernel.now.store)) taken.now }
     requires few { length taken.now ≡ length kernel.now.rows }
-    ensures reply { IfOk result (λ r. (p : Provable) → At (facts S.trees kernel.now) fact p → Records (map (step_at (S.trees kernel.now.store)) taken.now) p (reply_of r)) }
+    ensures reply { IfOk result (λ r. (p : Provable) → At (facts S.trees kernel.now) fact p →
+        Records (map (step_at (S.trees kernel.now.store)) taken.now) p (reply_of r)) }
     ensures ended { IfErr result (EndsIn (λ reply. (p : Provable) → Records (map (step_at (S.trees kernel.now.store)) taken.now) p reply)) }
 {
     let lines = kernel.rows();

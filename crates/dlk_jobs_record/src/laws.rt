@@ -17,6 +17,7 @@ ghost use Rattle.dlk_jobs_record.specs.Records.{Records, IsLast, IsWritten, Writ
 use dlk_recorder::recorded_is_accepted;
 
 /// There is one answer to steps that show a provable. It writes a term, or it is a refusal.
+/// The statement of the program's answers asks for it.
 pub fn one_record()
     ensures one { (steps : List Step) (p : Provable) (one other : TheReply) → Records steps p one → Records steps p other → one ≡ other }
     ensures some { (steps : List Step) (p : Provable) → (reply : TheReply) × Records steps p reply }

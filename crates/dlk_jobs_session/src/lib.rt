@@ -6,6 +6,5 @@ mod playing;
 mod runner;
 mod script;
 pub mod session;
-mod splitting;
 
 pub use runner::Strategies;

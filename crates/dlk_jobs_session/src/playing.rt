@@ -51,7 +51,8 @@ fn play_line<S: Store, L: Ledger>(
     steps: &mut Steps<L>,
 ) -> Result<(), NoReply>
     requires { IsKnownLine (S.trees session.old.kernel.store) line.now }
-    ensures turn { OnOk result ((answer : Answer) × Turn RunsOn (state S.trees session.old) (line_at (S.trees session.old.kernel.store) line.now) answer (state S.trees session.new) × (out.new.items ≡ out.old.items ++ answer_text answer)) }
+    ensures turn { OnOk result ((answer : Answer) × Turn RunsOn (state S.trees session.old) (line_at (S.trees session.old.kernel.store) line.now) answer
+        (state S.trees session.new) × (out.new.items ≡ out.old.items ++ answer_text answer)) }
     ensures grows { S.grows session.old.kernel.store session.new.kernel.store }
 {
     match line {
@@ -81,7 +82,8 @@ pub(crate) fn play<S: Store, L: Ledger>(
     steps: &mut Steps<L>,
 ) -> Result<Vec<u8>, NoReply>
     requires { All (IsKnownLine (S.trees session.old.kernel.store)) lines.now }
-    ensures turns { IfOk result (λ out. (answers : List Answer) × Turns RunsOn (state S.trees session.old) (map (line_at (S.trees session.old.kernel.store)) lines.now) answers (state S.trees session.new) × (out.items ≡ answers_text answers)) }
+    ensures turns { IfOk result (λ out. (answers : List Answer) × Turns RunsOn (state S.trees session.old)
+        (map (line_at (S.trees session.old.kernel.store)) lines.now) answers (state S.trees session.new) × (out.items ≡ answers_text answers)) }
     ensures grows { S.grows session.old.kernel.store session.new.kernel.store }
 {
     let mut out = Vec::new(alloc);

@@ -7,8 +7,8 @@ ghost use Rattle.dlk_jobs_session.specs.Parts.{GoalThen};
 ghost use Rattle.dlk_jobs_session.specs.Scripts.{ScriptLine, Script, ScriptFault as FaultOf};
 ghost use Rattle.dlk_jobs_session.specs.Ties.{line_at, IsKnownLine, of_syntax, IsScriptFaultOf};
 
-use crate::splitting::first_line;
 use dlk_lines::{LineFault, number_before};
+use dlk_replay::first_line;
 use dlk_store::Store;
 use dlk_tacsyn::laws::one_strategy;
 use dlk_tacsyn::{TacSyntax, Tactic, strategy};

@@ -5,10 +5,11 @@ use Rattle.std.proofs.lemmas.List.Elements.{All-weaker}
 use Rattle.dlk_tree.specs.Trees.{Tree}
 use Rattle.dlk_rules.specs.declared.step.Step.{Step}
 use Rattle.dlk_rules.specs.Steps.{step_at, HasKnownIds}
-use Rattle.dlk_store.specs.Stores.{Keeps}
+use Rattle.dlk_store.specs.declared.Id.{Id}
+use Rattle.dlk_store.specs.Stores.{Keeps, StandsFor, tree}
 use Rattle.dlk_sequent.proofs.Kept.{sequent-kept, IsKnown-kept}
 use Rattle.dlk_link.proofs.LinkedSteps.{maps_stay}
-use Rattle.dlk_jobs_check.specs.Terms.{Replays}
+use Rattle.dlk_jobs_check.specs.Terms.{ModelText, Replays}
 use Rattle.dlk_jobs_terms.specs.Kept.{IsLemma}
 use Rattle.dlk_jobs_terms.specs.declared.taken.Lemma.{Lemma}
 
@@ -30,3 +31,8 @@ module _ (known : (old new : List Tree) (step : Step) → Keeps old new → HasK
     steps_known = still_known old new keeps lemma.steps.items is.steps_known;
     known = IsKnown-kept keeps lemma.concludes is.known;
   }
+
+-- a model that was read is a text of what its id stands for
+pub model_stays : {old new : List Tree} {model : List ℕ} {id : Id} → Keeps old new → ((f : Tree) × ModelText model f × StandsFor old id f) →
+    ModelText model (tree new id)
+model_stays {old} {new} {model} {id} keeps (f, reads, is) = subst (ModelText model) (sym (keeps.same id is.known ∙ is.tree_is)) reads

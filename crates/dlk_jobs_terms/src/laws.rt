@@ -40,7 +40,7 @@ pub fn some_term_reply()
     trimmed_is_taken();
 }
 
-/// Each of the commands writes a term, or refuses.
+/// Each of the commands writes a term, or refuses. The statement of the program's answers asks for it.
 pub fn term_or_refusal()
     ensures converts { (term : List ℕ) (reply : TheReply) → Converts term reply → WritesUnlessRefused reply }
     ensures links { (model term lemma : List ℕ) (reply : TheReply) → Links model term lemma reply → WritesUnlessRefused reply }

@@ -5,7 +5,8 @@ ghost use Rattle.dlk_jobs_terms.specs.Refused.{IsLinkRefused};
 ghost use Rattle.dlk_replies.specs.Ended.{EndsIn};
 ghost use Rattle.dlk_replies.specs.Shown.{reply_of};
 
-use crate::taken::{Lemma, record_taken, taken, taken_lemma};
+use crate::taken::{Lemma, record_taken, taken_for, taken_lemma};
+use dlk_jobs_check::term::read_model;
 use dlk_kernel::Kernel;
 use dlk_link::LinkFault;
 use dlk_replay::accepted_says_steps;
@@ -46,9 +47,10 @@ fn link_on<S: Store, L: Ledger>(
 {
     accepted_says_steps();
     step_stays();
-    // The lemma comes first, since the rows of the term stay. Yet what is against the term is answered before what is against the lemma.
+    let formula = read_model(alloc, model, kernel)?;
+    // The lemma comes before the term, whose rows stay. Yet what is against the term is answered before what is against the lemma.
     let lemma = taken_lemma(alloc, lemma, kernel, steps);
-    let main = taken(alloc, model, term, kernel, steps)?;
+    let main = taken_for(alloc, formula, term, kernel, steps)?;
     let by = lemma?;
     let Lemma {
         steps: others,

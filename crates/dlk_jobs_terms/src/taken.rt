@@ -1,13 +1,14 @@
 // The steps of a term, of which the rows stay, and those of a lemma, of which they are dropped again.
-ghost use Rattle.std.specs.Prelude.{◌≡◌, ◌≤◌, [], length, map, All, IfOk, IfErr, codes};
+ghost use Rattle.std.specs.Prelude.{◌≡◌, ◌≤◌, ℕ, List, [], length, map, All, IfOk, IfErr, codes};
 ghost use Rattle.dlk_calculus.specs.Provables.{Provable};
+ghost use Rattle.dlk_store.specs.Stores.{IsId, tree};
 ghost use Rattle.dlk_kernel.specs.Kernel.{facts};
 ghost use Rattle.dlk_kernel.specs.Taken.{Takes};
 ghost use Rattle.dlk_rules.specs.Steps.{step_at, HasKnownIds};
 ghost use Rattle.dlk_replies.specs.Ended.{EndsIn};
 ghost use Rattle.dlk_replies.specs.Shown.{reply_of};
 ghost use Rattle.dlk_jobs_check.specs.Judged.{RefusesLine};
-ghost use Rattle.dlk_jobs_check.specs.Terms.{TakesTerm, RefusesTerm};
+ghost use Rattle.dlk_jobs_check.specs.Terms.{ModelText, TakesTerm, RefusesTerm};
 ghost use Rattle.dlk_jobs_terms.specs.Kept.{IsKept, IsLemma};
 ghost use Rattle.dlk_jobs_terms.specs.Made.{RecordsLast};
 
@@ -18,7 +19,7 @@ use dlk_replay::{Outcome, replay};
 use dlk_replies::{Ended, Reply};
 use dlk_rules::Step;
 use dlk_sequent::Sequent;
-use dlk_store::{Steps, Store};
+use dlk_store::{Id, Steps, Store};
 use std::alloc::Global;
 use std::sync::ledger::Ledger;
 
@@ -47,6 +48,32 @@ pub(crate) fn replayed<S: Store, L: Ledger>(
     }
 }
 
+/// The steps of a term that is taken for a formula, whatever model it was read from. The kernel has no rows, and then those of the term.
+///
+/// # Errors
+///
+/// - `Refused`: a line of the term is not as it must be; or the term's last row shows something else than the formula.
+/// - `Memory`: for want of memory.
+pub(crate) fn taken_for<S: Store, L: Ledger>(
+    alloc: Global,
+    formula: Id,
+    term: &[u8],
+    kernel: &mut Kernel<S>,
+    steps: &mut Steps<L>,
+) -> Result<Vec<Step>, Ended>
+    requires none { kernel.old.rows ≡ [] }
+    requires formula { IsId (S.trees kernel.old.store) formula }
+    ensures taken { IfOk result (λ kept. (model : List ℕ) → ModelText model (tree (S.trees kernel.old.store) formula) → (p : Provable) ×
+        TakesTerm model term.now (map (step_at (S.trees kernel.new.store)) kept.items) (facts S.trees kernel.new) p) }
+    ensures known { IfOk result (λ kept. All (HasKnownIds (S.trees kernel.new.store)) kept.items) }
+    ensures refused { (model : List ℕ) → ModelText model (tree (S.trees kernel.old.store) formula) → IfErr result (EndsIn (RefusesTerm model term.now)) }
+    ensures grows { S.grows kernel.old.store kernel.new.store }
+{
+    let outcome = replayed(alloc, "line", term, kernel, steps)?;
+    judge(alloc, kernel, formula, outcome.fact, outcome.line, steps)?;
+    Ok(outcome.steps)
+}
+
 /// The steps of a term that is taken for a model. The kernel has no rows, and then those of the term.
 ///
 /// # Errors
@@ -62,15 +89,14 @@ pub(crate) fn taken<S: Store, L: Ledger>(
     steps: &mut Steps<L>,
 ) -> Result<Vec<Step>, Ended>
     requires { kernel.old.rows ≡ [] }
-    ensures taken { IfOk result (λ kept. (p : Provable) × TakesTerm model.now term.now (map (step_at (S.trees kernel.new.store)) kept.items) (facts S.trees kernel.new) p) }
+    ensures taken { IfOk result (λ kept. (p : Provable) ×
+        TakesTerm model.now term.now (map (step_at (S.trees kernel.new.store)) kept.items) (facts S.trees kernel.new) p) }
     ensures known { IfOk result (λ kept. All (HasKnownIds (S.trees kernel.new.store)) kept.items) }
     ensures refused { IfErr result (EndsIn (RefusesTerm model.now term.now)) }
     ensures grows { S.grows kernel.old.store kernel.new.store }
 {
     let formula = read_model(alloc, model, kernel)?;
-    let outcome = replayed(alloc, "line", term, kernel, steps)?;
-    judge(alloc, kernel, formula, outcome.fact, outcome.line, steps)?;
-    Ok(outcome.steps)
+    taken_for(alloc, formula, term, kernel, steps)
 }
 
 /// A lemma: its steps, and what the last of them concludes.

@@ -32,4 +32,5 @@ RefusesUse pairs e reply = ((t : Tree) → ¬ Subst pairs e t) × (reply ≡ ref
 -- the tree is past a limit of what is read
 abbrev pub RefusesLarge : Tree → Reply → Type 0
 RefusesLarge t reply =
-    ((most_nodes < size t) × (reply ≡ refusal (codes "result-too-big"))) ⊎ ((size t ≤ most_nodes) × (greatest_depth < depth t) × (reply ≡ refusal (codes "result-too-deep")))
+    ((most_nodes < size t) × (reply ≡ refusal (codes "result-too-big"))) ⊎
+    ((size t ≤ most_nodes) × (greatest_depth < depth t) × (reply ≡ refusal (codes "result-too-deep")))

@@ -23,7 +23,8 @@ is_sequent_within measure s = list_all (is_within measure) s.ante && list_all (i
 
 -- and each replacement, and each formula of conclusion and goals
 abbrev pub is_substituted_within : Measure → List Pair → Provable → Bool
-is_substituted_within measure pairs p = list_all (λ pair. is_within measure pair.by) pairs && (is_sequent_within measure p.conclusion && list_all (is_sequent_within measure) p.goals)
+is_substituted_within measure pairs p =
+    list_all (λ pair. is_within measure pair.by) pairs && (is_sequent_within measure p.conclusion && list_all (is_sequent_within measure) p.goals)
 
 -- neither side has too many formulas
 abbrev pub has_few : Sequent → Bool

@@ -282,7 +282,8 @@ impl<S: Store> Store for Kernel<S> {
 
     ghost grows_refl = { λ a. (S.grows_refl a.store, record { ids = refl; provables = refl }) };
 
-    ghost grows_trans = { λ a b c p q. (S.grows_trans a.store b.store c.store p.0 q.0, record { ids = q.1.ids ∙ p.1.ids; provables = q.1.provables ∙ p.1.provables }) };
+    ghost grows_trans = { λ a b c p q.
+        (S.grows_trans a.store b.store c.store p.0 q.0, record { ids = q.1.ids ∙ p.1.ids; provables = q.1.provables ∙ p.1.provables }) };
 
     ghost grows_keeps = { λ a b p. S.grows_keeps a.store b.store p.0 };
 

@@ -64,7 +64,8 @@ pub(crate) fn swap_sequents<S: Store, L: Ledger>(
     steps: &mut Steps<L>,
 ) -> Result<Goals, StoreFault>
     requires { All (IsKnown (S.trees store.old)) all.now }
-    ensures made { IfOk result (λ made. map (sequent_at (S.trees store.new)) made ≡ map (swap_sequent x.now y.now) (map (sequent_at (S.trees store.old)) all.now)) }
+    ensures made { IfOk result (λ made.
+        map (sequent_at (S.trees store.new)) made ≡ map (swap_sequent x.now y.now) (map (sequent_at (S.trees store.old)) all.now)) }
     ensures known { IfOk result (All (IsKnown (S.trees store.new))) }
     ensures grows { S.grows store.old store.new }
 {

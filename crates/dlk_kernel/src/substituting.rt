@@ -59,11 +59,14 @@ fn subst_ids<S: Store, L: Ledger>(
 ) -> Result<Listed<Id>, ApplyFault>
     requires sigma { IsMadeOver (S.trees store.old) sigma.now }
     requires known { All (IsId (S.trees store.old)) ids.now }
-    ensures made { IfOk result (λ made. SubstEach (pairs_at (S.trees store.old) sigma.now.pairs) (map (tree (S.trees store.old)) ids.now) (map (tree (S.trees store.new)) made)) }
+    ensures made { IfOk result (λ made.
+        SubstEach (pairs_at (S.trees store.old) sigma.now.pairs) (map (tree (S.trees store.old)) ids.now) (map (tree (S.trees store.new)) made)) }
     ensures known { IfOk result (All (IsId (S.trees store.new))) }
-    ensures none { result ≡ Err NotAdmissible → (made : List Tree) → ¬ SubstEach (pairs_at (S.trees store.old) sigma.now.pairs) (map (tree (S.trees store.old)) ids.now) made }
+    ensures none { result ≡ Err NotAdmissible → (made : List Tree) →
+        ¬ SubstEach (pairs_at (S.trees store.old) sigma.now.pairs) (map (tree (S.trees store.old)) ids.now) made }
     ensures grows { S.grows store.old store.new }
-    ensures looks { IsTrue S.unique → steps.new ≤ steps.old + sum_by (most_looks (pairs_at (S.trees store.old) sigma.now.pairs)) (map (tree (S.trees store.old)) ids.now) }
+    ensures looks { IsTrue S.unique →
+        steps.new ≤ steps.old + sum_by (most_looks (pairs_at (S.trees store.old) sigma.now.pairs)) (map (tree (S.trees store.old)) ids.now) }
 {
     let mut made = Listed::new(alloc);
     for id in ids {
@@ -87,11 +90,14 @@ fn subst_sequent<S: Store, L: Ledger>(
 ) -> Result<Sequent, ApplyFault>
     requires sigma { IsMadeOver (S.trees store.old) sigma.now }
     requires known { IsKnown (S.trees store.old) s.now }
-    ensures made { IfOk result (λ made. SubstSequent (pairs_at (S.trees store.old) sigma.now.pairs) (sequent_at (S.trees store.old) s.now) (sequent_at (S.trees store.new) made)) }
+    ensures made { IfOk result (λ made.
+        SubstSequent (pairs_at (S.trees store.old) sigma.now.pairs) (sequent_at (S.trees store.old) s.now) (sequent_at (S.trees store.new) made)) }
     ensures known { IfOk result (IsKnown (S.trees store.new)) }
-    ensures none { result ≡ Err NotAdmissible → (made : TreeSequent) → ¬ SubstSequent (pairs_at (S.trees store.old) sigma.now.pairs) (sequent_at (S.trees store.old) s.now) made }
+    ensures none { result ≡ Err NotAdmissible → (made : TreeSequent) →
+        ¬ SubstSequent (pairs_at (S.trees store.old) sigma.now.pairs) (sequent_at (S.trees store.old) s.now) made }
     ensures grows { S.grows store.old store.new }
-    ensures looks { IsTrue S.unique → steps.new ≤ steps.old + sequent_looks (pairs_at (S.trees store.old) sigma.now.pairs) (sequent_at (S.trees store.old) s.now) }
+    ensures looks { IsTrue S.unique →
+        steps.new ≤ steps.old + sequent_looks (pairs_at (S.trees store.old) sigma.now.pairs) (sequent_at (S.trees store.old) s.now) }
 {
     let ante = subst_ids(alloc, store, sigma, s.ante.as_slice(), steps)?;
     let succ = subst_ids(alloc, store, sigma, s.succ.as_slice(), steps)?;
@@ -112,11 +118,14 @@ fn subst_sequents<S: Store, L: Ledger>(
 ) -> Result<Goals, ApplyFault>
     requires sigma { IsMadeOver (S.trees store.old) sigma.now }
     requires known { All (IsKnown (S.trees store.old)) all.now }
-    ensures made { IfOk result (λ made. SubstSequents (pairs_at (S.trees store.old) sigma.now.pairs) (map (sequent_at (S.trees store.old)) all.now) (map (sequent_at (S.trees store.new)) made)) }
+    ensures made { IfOk result (λ made. SubstSequents (pairs_at (S.trees store.old) sigma.now.pairs) (map (sequent_at (S.trees store.old)) all.now)
+        (map (sequent_at (S.trees store.new)) made)) }
     ensures known { IfOk result (All (IsKnown (S.trees store.new))) }
-    ensures none { result ≡ Err NotAdmissible → (made : List TreeSequent) → ¬ SubstSequents (pairs_at (S.trees store.old) sigma.now.pairs) (map (sequent_at (S.trees store.old)) all.now) made }
+    ensures none { result ≡ Err NotAdmissible → (made : List TreeSequent) →
+        ¬ SubstSequents (pairs_at (S.trees store.old) sigma.now.pairs) (map (sequent_at (S.trees store.old)) all.now) made }
     ensures grows { S.grows store.old store.new }
-    ensures looks { IsTrue S.unique → steps.new ≤ steps.old + sum_by (sequent_looks (pairs_at (S.trees store.old) sigma.now.pairs)) (map (sequent_at (S.trees store.old)) all.now) }
+    ensures looks { IsTrue S.unique →
+        steps.new ≤ steps.old + sum_by (sequent_looks (pairs_at (S.trees store.old) sigma.now.pairs)) (map (sequent_at (S.trees store.old)) all.now) }
 {
     let mut made = Goals::new();
     for s in all {
@@ -141,11 +150,14 @@ pub(crate) fn subst_row<S: Store, L: Ledger>(
 ) -> Result<Row, ApplyFault>
     requires sigma { IsMadeOver (S.trees store.old) sigma.now }
     requires known { IsKnownRow (S.trees store.old) row.now }
-    ensures made { IfOk result (λ made. Substitutes (pairs_at (S.trees store.old) sigma.now.pairs) (provable_at (S.trees store.old) row.now) (provable_at (S.trees store.new) made)) }
+    ensures made { IfOk result (λ made.
+        Substitutes (pairs_at (S.trees store.old) sigma.now.pairs) (provable_at (S.trees store.old) row.now) (provable_at (S.trees store.new) made)) }
     ensures known { IfOk result (IsKnownRow (S.trees store.new)) }
-    ensures none { result ≡ Err NotAdmissible → (made : Provable) → ¬ Substitutes (pairs_at (S.trees store.old) sigma.now.pairs) (provable_at (S.trees store.old) row.now) made }
+    ensures none { result ≡ Err NotAdmissible → (made : Provable) →
+        ¬ Substitutes (pairs_at (S.trees store.old) sigma.now.pairs) (provable_at (S.trees store.old) row.now) made }
     ensures grows { S.grows store.old store.new }
-    ensures looks { IsTrue S.unique → steps.new ≤ steps.old + provable_looks (pairs_at (S.trees store.old) sigma.now.pairs) (provable_at (S.trees store.old) row.now) }
+    ensures looks { IsTrue S.unique →
+        steps.new ≤ steps.old + provable_looks (pairs_at (S.trees store.old) sigma.now.pairs) (provable_at (S.trees store.old) row.now) }
 {
     let conclusion = subst_sequent(alloc, store, sigma, row.conclusion.value(), steps)?;
     let goals = subst_sequents(alloc, store, sigma, row.goals.as_slice(), steps)?;

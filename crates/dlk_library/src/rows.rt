@@ -95,8 +95,10 @@ fn or_use(
     place: &Arg,
 ) -> Result<Vec<Tactic>, AllocError>
     requires { IsTrue (is_name name.now) }
-    ensures made { IfOk result (λ all. (trees : List Tree) → map (tactic_at trees) all.items ≡ map (tactic_at trees) steps.items ++ use_at at name.now (argument_at trees place.now) ∷ []) }
-    ensures known { IfOk result (λ all. (trees : List Tree) → ArgumentIsKnown trees place.now → All (TacticIsKnown trees) steps.items → All (TacticIsKnown trees) all.items) }
+    ensures made { IfOk result (λ all. (trees : List Tree) →
+        map (tactic_at trees) all.items ≡ map (tactic_at trees) steps.items ++ use_at at name.now (argument_at trees place.now) ∷ []) }
+    ensures known { IfOk result (λ all. (trees : List Tree) → ArgumentIsKnown trees place.now → All (TacticIsKnown trees) steps.items →
+        All (TacticIsKnown trees) all.items) }
 {
     let step = use_at(alloc, at, name, place)?;
     steps.push(step)?;
@@ -128,8 +130,10 @@ fn or_rule(
     place: Arg,
 ) -> Result<Vec<Tactic>, AllocError>
     requires { IsTrue (is_name name.now) }
-    ensures made { IfOk result (λ all. (trees : List Tree) → map (tactic_at trees) all.items ≡ map (tactic_at trees) rules.items ++ rule_at at name.now (argument_at trees place) ∷ []) }
-    ensures known { IfOk result (λ all. (trees : List Tree) → ArgumentIsKnown trees place → All (TacticIsKnown trees) rules.items → All (TacticIsKnown trees) all.items) }
+    ensures made { IfOk result (λ all. (trees : List Tree) →
+        map (tactic_at trees) all.items ≡ map (tactic_at trees) rules.items ++ rule_at at name.now (argument_at trees place) ∷ []) }
+    ensures known { IfOk result (λ all. (trees : List Tree) → ArgumentIsKnown trees place → All (TacticIsKnown trees) rules.items →
+        All (TacticIsKnown trees) all.items) }
 {
     let rule = rule_at(alloc, at, name, place)?;
     rules.push(rule)?;

@@ -3,7 +3,8 @@ use Rattle.std.proofs.Common.{◌≡◌, ◌≢◌, ℕ, ◌+◌, ◌-◌, ◌<�
 use Rattle.std.proofs.Common.{inl, inr, lit<, arith, below_more, length-take, length-drop}
 use Rattle.std.specs.List.{list_all}
 use Rattle.std.proofs.lemmas.Bool.{cases_lt, and_parts, and_from, both_ways, leb-true, le-leb}
-use Rattle.std.proofs.lemmas.List.{append-nil, take-append-drop, take_all, get_or-take, get_or-drop, get_or_default, get_or_append_left, get_or-append-add, get_or_past}
+use Rattle.std.proofs.lemmas.List.{append-nil, take-append-drop, take_all, get_or-take, get_or-drop, get_or_default, get_or_append_left, get_or-append-add}
+use Rattle.std.proofs.lemmas.List.{get_or_past}
 use Rattle.std.proofs.lemmas.List.Sums.{list_all-from_AllPass, AllPass-from_list_all}
 use Rattle.std.proofs.Math.Nat.{pow-le-pow_right}
 use Rattle.dlk_grammar.specs.Tokens.{is_digit, value}

@@ -1,6 +1,6 @@
 -- Lines that are refused for one of their parts.
-use Rattle.std.proofs.Common.{◌≡◌, ℕ, List, Result, Err, inl, inr}
-use Rattle.std.specs.Prelude.{◌↔◌, IsTrue, IsFalse}
+use Rattle.std.proofs.Common.{◌≡◌, ℕ, List, Result, Ok, Err, inl, inr}
+use Rattle.std.specs.Prelude.{◌↔◌, IfErr, IsTrue, IsFalse}
 use Rattle.std.proofs.lemmas.Bool.{cases_Bool}
 use Rattle.dlk_tree.specs.Names.{is_name}
 use Rattle.dlk_tree.specs.declared.name.NameFault.{NameFault}
@@ -13,6 +13,10 @@ use Rattle.dlk_lines.specs.Read.{IsLineFaultOf, of_name}
 pub fault_of_whole : {part whole : Type 0} → (part → whole) → (why : LineFault) → IsLineFaultOf part why → IsLineFaultOf whole why
 fault_of_whole up fault.Malformed f = up f
 fault_of_whole up fault.Memory f = tt
+
+pub err_of_whole : {A part whole : Type 0} → (part → whole) → (r : Result A LineFault) → IfErr r (IsLineFaultOf part) → IfErr r (IsLineFaultOf whole)
+err_of_whole up (Ok x) f = tt
+err_of_whole up (Err why) f = fault_of_whole up why f
 
 -- a name that isn't made for want of memory is one
 pub name_wants : {A B : Type 0} (text : List ℕ) (why : NameFault) (r : Result A LineFault) (q : Result B NameFault) → r ≡ Err (of_name why) → q ≡ Err why →

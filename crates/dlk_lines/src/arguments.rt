@@ -61,7 +61,8 @@ pub(crate) fn place_and_formula<P: Spelled, S: Store>(
     requires { P.IsReady spelled.old (S.trees store.old) }
     ensures found { IfOk result (λ p. IsArguments (P.spelling spelled.old (S.trees store.old)) text.now (PlaceAndFormula p.0 (tree (S.trees store.new) p.1))) }
     ensures known { IfOk result (λ p. IsId (S.trees store.new) p.1) }
-    ensures fault { IfErr result (IsLineFaultOf ((i : ℕ) (h : Tree) → ¬ IsArguments (P.spelling spelled.old (S.trees store.old)) text.now (PlaceAndFormula i h))) }
+    ensures fault { IfErr result (IsLineFaultOf ((i : ℕ) (h : Tree) →
+        ¬ IsArguments (P.spelling spelled.old (S.trees store.old)) text.now (PlaceAndFormula i h))) }
     ensures memory { result ≡ Err Memory → BeginsWithNumber text.now 44 }
     ensures stays { P.spelling spelled.new (S.trees store.new) ≡ P.spelling spelled.old (S.trees store.old) }
     ensures grows { S.grows store.old store.new }

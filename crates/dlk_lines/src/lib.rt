@@ -21,7 +21,7 @@ pub use laws::{
     done_is_no_step, one_step_line, some_step_line, steps_are_proper, written_line_is_read,
 };
 pub use line::{read_step_line, write_step_line};
-pub use parts::cut_at;
+pub use parts::{cut_at, place_of};
 pub use spelled::{Spelled, Spells};
 pub use step::read_step;
 pub use writing::write_step;

@@ -36,7 +36,8 @@ pub fn read_step_line<P: Spelled, S: Store>(
     requires { P.IsReady spelled.old (S.trees store.old) }
     ensures found { IfOk result (λ p. IsStepLine (P.spelling spelled.old (S.trees store.old)) line.now p.0 (step_at (S.trees store.new) p.1)) }
     ensures known { IfOk result (λ p. HasKnownIds (S.trees store.new) p.1) }
-    ensures fault { IfErr result (IsLineFaultOf ((number : ℕ) (step : TreeStep) → ¬ IsStepLine (P.spelling spelled.old (S.trees store.old)) line.now number step)) }
+    ensures fault { IfErr result (IsLineFaultOf ((number : ℕ) (step : TreeStep) →
+        ¬ IsStepLine (P.spelling spelled.old (S.trees store.old)) line.now number step)) }
     ensures memory { result ≡ Err Memory → LineWants line.now }
     ensures stays { P.spelling spelled.new (S.trees store.new) ≡ P.spelling spelled.old (S.trees store.old) }
     ensures grows { S.grows store.old store.new }

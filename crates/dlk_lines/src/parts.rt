@@ -12,7 +12,7 @@ pub fn cut_at(text: &[u8], byte: u8) -> Option<(&[u8], &[u8])>
 }
 
 /// The index of the first byte of this kind.
-fn place_of(text: &[u8], byte: u8) -> Option<usize>
+pub fn place_of(text: &[u8], byte: u8) -> Option<usize>
     ensures { result ≡ position (λ b. b == byte) text.now }
 {
     text.iter().position(|b| *b == byte)

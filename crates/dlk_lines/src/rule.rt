@@ -55,10 +55,12 @@ fn read_arguments<P: Spelled, S: Store>(
     store: &mut S,
 ) -> Result<Arguments<Name>, LineFault>
     requires { P.IsReady spelled.old (S.trees store.old) }
-    ensures found { IfOk result (λ arguments. IsArguments (P.spelling spelled.old (S.trees store.old)) text.now (arguments_at (λ y. y) (S.trees store.new) arguments)) }
+    ensures found { IfOk result (λ arguments.
+        IsArguments (P.spelling spelled.old (S.trees store.old)) text.now (arguments_at (λ y. y) (S.trees store.new) arguments)) }
     ensures shape { IfOk result (λ arguments. shape_in arguments ≡ shape) }
     ensures known { IfOk result (ArgumentsAreKnown (S.trees store.new)) }
-    ensures fault { IfErr result (IsLineFaultOf ((arguments : TreeArguments) → shape ≡ shape_of arguments → ¬ IsArguments (P.spelling spelled.old (S.trees store.old)) text.now arguments)) }
+    ensures fault { IfErr result (IsLineFaultOf ((arguments : TreeArguments) → shape ≡ shape_of arguments →
+        ¬ IsArguments (P.spelling spelled.old (S.trees store.old)) text.now arguments)) }
     ensures memory { result ≡ Err Memory → ArgumentsWant shape text.now }
     ensures stays { P.spelling spelled.new (S.trees store.new) ≡ P.spelling spelled.old (S.trees store.old) }
     ensures grows { S.grows store.old store.new }

@@ -52,7 +52,7 @@ pub fn read_step<P: Spelled, S: Store>(
     step_of_word(alloc, word, rest, spelled, store)
 }
 
-/// The step of a word, with what stands behind the word.
+/// The step of a word, with what stands behind the word. The words are in the order in which proofs have most of them.
 fn step_of_word<P: Spelled, S: Store>(
     alloc: Global,
     word: &str,
@@ -69,13 +69,13 @@ fn step_of_word<P: Spelled, S: Store>(
     ensures grows { S.grows store.old store.new }
 {
     match word {
-        "start" => Ok(Step::Start(spelled.sequent(alloc, rest, store)?)),
-        "axiom" => Ok(Step::Axiom(name(alloc, rest)?)),
-        "rule" => Ok(Step::AxRule(name(alloc, rest)?)),
-        "leaf" => Ok(Step::Leaf(spelled.sequent(alloc, rest, store)?)),
         "apply" => {
             let (fact, goal, rule) = read_apply(alloc, rest, spelled, store)?;
             Ok(Step::Apply { fact, goal, rule })
+        }
+        "subst" => {
+            let (fact, pairs) = read_subst(alloc, rest, spelled, store)?;
+            Ok(Step::Subst { fact, pairs })
         }
         "merge" => {
             let Some((fact, goal, by)) = read_merge(rest) else {
@@ -83,14 +83,14 @@ fn step_of_word<P: Spelled, S: Store>(
             };
             Ok(Step::Merge { fact, goal, by })
         }
-        "subst" => {
-            let (fact, pairs) = read_subst(alloc, rest, spelled, store)?;
-            Ok(Step::Subst { fact, pairs })
-        }
+        "rule" => Ok(Step::AxRule(name(alloc, rest)?)),
+        "axiom" => Ok(Step::Axiom(name(alloc, rest)?)),
         "rename" => {
             let (fact, x, y) = read_rename(alloc, rest)?;
             Ok(Step::Rename { fact, x, y })
         }
+        "leaf" => Ok(Step::Leaf(spelled.sequent(alloc, rest, store)?)),
+        "start" => Ok(Step::Start(spelled.sequent(alloc, rest, store)?)),
         _ => Err(LineFault::Malformed),
     }
 }
@@ -115,7 +115,8 @@ fn read_apply<P: Spelled, S: Store>(
     requires { P.IsReady spelled.old (S.trees store.old) }
     ensures found { IfOk result (λ p. FactGoalRule (P.spelling spelled.old (S.trees store.old)) text.now p.0 p.1 (rule_at (S.trees store.new) p.2)) }
     ensures known { IfOk result (λ p. RuleIsKnown (S.trees store.new) p.2) }
-    ensures fault { IfErr result (IsLineFaultOf ((fact goal : ℕ) (rule : TreeRule) → ¬ FactGoalRule (P.spelling spelled.old (S.trees store.old)) text.now fact goal rule)) }
+    ensures fault { IfErr result (IsLineFaultOf ((fact goal : ℕ) (rule : TreeRule) →
+        ¬ FactGoalRule (P.spelling spelled.old (S.trees store.old)) text.now fact goal rule)) }
     ensures memory { result ≡ Err Memory → ApplyWants text.now }
     ensures stays { P.spelling spelled.new (S.trees store.new) ≡ P.spelling spelled.old (S.trees store.old) }
     ensures grows { S.grows store.old store.new }
@@ -147,7 +148,8 @@ fn read_subst<P: Spelled, S: Store>(
     requires { P.IsReady spelled.old (S.trees store.old) }
     ensures found { IfOk result (λ p. FactPairs (P.spelling spelled.old (S.trees store.old)) text.now p.0 (pairs_at (S.trees store.new) p.1)) }
     ensures known { IfOk result (λ p. AreKnownPairs (S.trees store.new) p.1) }
-    ensures fault { IfErr result (IsLineFaultOf ((fact : ℕ) (pairs : List TreePair) → ¬ FactPairs (P.spelling spelled.old (S.trees store.old)) text.now fact pairs)) }
+    ensures fault { IfErr result (IsLineFaultOf ((fact : ℕ) (pairs : List TreePair) →
+        ¬ FactPairs (P.spelling spelled.old (S.trees store.old)) text.now fact pairs)) }
     ensures memory { result ≡ Err Memory → BeginsWithNumber text.now 32 }
     ensures stays { P.spelling spelled.new (S.trees store.new) ≡ P.spelling spelled.old (S.trees store.old) }
     ensures grows { S.grows store.old store.new }

@@ -44,7 +44,8 @@ fn write_arguments<W: Spells, L: Ledger>(
 ) -> Result<(), PrintFault>
     requires known { ArgumentsAreKnown (W.trees writer.now) arguments }
     requires there { W.Has writer.now (formulas_in (arguments_at (λ y. y.now) (W.trees writer.now) arguments)) }
-    ensures text { Appends out.old.items out.new.items (arguments_text (W.spelling writer.now) (arguments_at (λ y. y.now) (W.trees writer.now) arguments.entry)) result }
+    ensures text { Appends out.old.items out.new.items
+        (arguments_text (W.spelling writer.now) (arguments_at (λ y. y.now) (W.trees writer.now) arguments.entry)) result }
     ensures cost { steps.new ≤ steps.old + arguments_looks (W.spelling writer.now) (arguments_at (λ y. y.now) (W.trees writer.now) arguments.entry) }
 {
     match arguments {

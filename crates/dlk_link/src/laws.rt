@@ -17,11 +17,12 @@ use dlk_calculus::laws::{one_fault, one_provable, taken_as_given};
 
 /// Where each fact that a step names stands under another number, the step with these numbers gives the same, and is as well within the limits.
 pub fn moved_steps()
-    ensures gives { (rows others : List Provable) (to : ℕ → ℕ) (step : Step) (p : Provable) → ((fact : ℕ) (q : Provable) → Names step fact → At rows fact q → At others (to fact) q) → Gives rows step p → Gives others (renumbered to step) p }
+    ensures gives { (rows others : List Provable) (to : ℕ → ℕ) (step : Step) (p : Provable) →
+        ((fact : ℕ) (q : Provable) → Names step fact → At rows fact q → At others (to fact) q) → Gives rows step p → Gives others (renumbered to step) p }
     ensures within { (to : ℕ → ℕ) (step : Step) (p : Provable) → IsWithin step p → IsWithin (renumbered to step) p }
 {}
 
-/// Of a term at most one list of steps is kept.
+/// Of a term at most one list of steps is kept. The statement of trimmed terms asks for it.
 pub fn one_trimmed()
     ensures { (term kept others : List Step) → Trimmed term kept → Trimmed term others → kept ≡ others }
 {}
@@ -29,7 +30,8 @@ pub fn one_trimmed()
 /// What is kept of a term is taken, and each row that the last one needs is there under its new number. So it ends in the same provable.
 /// At most as many steps are kept.
 pub fn trimmed_is_taken()
-    ensures rows { (term kept : List Step) (numbers : List ℕ) (rows : List Provable) → Takes [] term rows → Trims term term kept numbers → Keeps term numbers rows kept }
+    ensures rows { (term kept : List Step) (numbers : List ℕ) (rows : List Provable) → Takes [] term rows → Trims term term kept numbers →
+        Keeps term numbers rows kept }
     ensures last { (term kept : List Step) (rows : List Provable) → Takes [] term rows → 1 ≤ length term → Trimmed term kept → ShowsSame rows kept }
 {
     taken_as_given();
@@ -50,17 +52,22 @@ pub fn neat_is_trimmed()
     ensures { (steps : List Step) (rows : List Provable) → Takes [] steps rows → 1 ≤ length steps → AreUnlike steps → AreNamed steps → Trimmed steps steps }
 {}
 
-/// There is one list of linked steps.
+/// There is one list of linked steps. The statement of linked terms asks for it.
 pub fn one_linked()
-    ensures one { (term lemma steps others : List Step) (goals : List Sequent) (c : Sequent) → Linked term goals lemma c steps → Linked term goals lemma c others → steps ≡ others }
+    ensures one { (term lemma steps others : List Step) (goals : List Sequent) (c : Sequent) → Linked term goals lemma c steps →
+        Linked term goals lemma c others → steps ≡ others }
     ensures some { (term lemma : List Step) (goals : List Sequent) (c : Sequent) → (steps : List Step) × Linked term goals lemma c steps }
 {}
 
 /// Where a goal of the term's last row is what the lemma concludes, linked steps that are taken end in the term's last row with the lemma in the
 /// place of each such goal. Only a limit on goals, leaves or rows can be against one of them.
 pub fn linked_is_joined()
-    ensures row { (term lemma steps : List Step) (rows others after : List Provable) (p q : Provable) → Takes [] term rows → Takes [] lemma others → At rows (length rows) p → At others (length others) q → Linked term p.goals lemma q.conclusion steps → IsAmong q.conclusion p.goals → Takes [] steps after → (r : Provable) × At after (length after) r × Joined p q r }
-    ensures fault { (term lemma steps : List Step) (rows others : List Provable) (p q : Provable) (why : TheReason) → Takes [] term rows → Takes [] lemma others → At rows (length rows) p → At others (length others) q → Linked term p.goals lemma q.conclusion steps → FirstFault [] steps why → IsLinkLimit why }
+    ensures row { (term lemma steps : List Step) (rows others after : List Provable) (p q : Provable) → Takes [] term rows → Takes [] lemma others →
+        At rows (length rows) p → At others (length others) q → Linked term p.goals lemma q.conclusion steps → IsAmong q.conclusion p.goals →
+        Takes [] steps after → (r : Provable) × At after (length after) r × Joined p q r }
+    ensures fault { (term lemma steps : List Step) (rows others : List Provable) (p q : Provable) (why : TheReason) → Takes [] term rows →
+        Takes [] lemma others → At rows (length rows) p → At others (length others) q → Linked term p.goals lemma q.conclusion steps → FirstFault [] steps why →
+        IsLinkLimit why }
 {
     one_fault();
 }

@@ -39,7 +39,8 @@ fn merges_into<S: Store>(
     requires known { IsKnown (S.trees store.now) c.now }
     requires few { length goals.now ≤ 256 }
     requires room { by ≤ 800000 }
-    ensures joins { IfOk result (λ made. Joins (sequent_at (S.trees store.now) c.now) by main by (map (sequent_at (S.trees store.now)) goals.now) (map (step_at (S.trees store.now)) made.items)) }
+    ensures joins { IfOk result (λ made. Joins (sequent_at (S.trees store.now) c.now) by main by (map (sequent_at (S.trees store.now)) goals.now)
+        (map (step_at (S.trees store.now)) made.items)) }
     ensures known { IfOk result (λ made. (trees : List Tree) → All (HasKnownIds trees) made.items) }
 {
     let mut merges = Vec::new(alloc);
@@ -70,8 +71,10 @@ fn behind_rows(
 ) -> Result<Vec<Step>, AllocError>
     requires few { All NamesFew lemma.items }
     requires room { rows ≤ most_rows }
-    ensures steps { IfOk result (λ made. (trees : List Tree) → map (step_at trees) made.items ≡ map (renumbered (λ fact. fact + rows)) (map (step_at trees) lemma.items) ++ map (step_at trees) merges.items) }
-    ensures known { IfOk result (λ made. (trees : List Tree) → All (HasKnownIds trees) lemma.items → All (HasKnownIds trees) merges.items → All (HasKnownIds trees) made.items) }
+    ensures steps { IfOk result (λ made. (trees : List Tree) →
+        map (step_at trees) made.items ≡ map (renumbered (λ fact. fact + rows)) (map (step_at trees) lemma.items) ++ map (step_at trees) merges.items) }
+    ensures known { IfOk result (λ made. (trees : List Tree) → All (HasKnownIds trees) lemma.items → All (HasKnownIds trees) merges.items →
+        All (HasKnownIds trees) made.items) }
 {
     let mut made = Vec::with_capacity(alloc, lemma.len())?;
     for step in lemma {
@@ -91,7 +94,9 @@ fn merges_behind<S: Store>(
     requires some { 1 ≤ length (facts S.trees kernel.now) }
     requires few { lemma ≤ most_rows }
     requires conclusion { IsKnown (S.trees kernel.now.store) c.now }
-    ensures joins { IfOk result (λ made. (p : Provable) → At (facts S.trees kernel.now) (length (facts S.trees kernel.now)) p → Joins (sequent_at (S.trees kernel.now.store) c.now) (length (facts S.trees kernel.now) + lemma) (length (facts S.trees kernel.now)) (length (facts S.trees kernel.now) + lemma) p.goals (map (step_at (S.trees kernel.now.store)) made.items)) }
+    ensures joins { IfOk result (λ made. (p : Provable) → At (facts S.trees kernel.now) (length (facts S.trees kernel.now)) p →
+        Joins (sequent_at (S.trees kernel.now.store) c.now) (length (facts S.trees kernel.now) + lemma) (length (facts S.trees kernel.now))
+        (length (facts S.trees kernel.now) + lemma) p.goals (map (step_at (S.trees kernel.now.store)) made.items)) }
     ensures known { IfOk result (λ made. (trees : List Tree) → All (HasKnownIds trees) made.items) }
 {
     let last = kernel.rows();
@@ -113,12 +118,16 @@ fn linked<S: Store, L: Ledger>(
     requires lemma_known { All (HasKnownIds (S.trees kernel.old.store)) lemma.items }
     requires term_ends { (p : Provable) × EndsIn (map (step_at (S.trees kernel.old.store)) term.items) p }
     requires lemma_ends { (q : Provable) × EndsIn (map (step_at (S.trees kernel.old.store)) lemma.items) q }
-    requires conclusion { (q : Provable) → EndsIn (map (step_at (S.trees kernel.old.store)) lemma.items) q → q.conclusion ≡ sequent_at (S.trees kernel.old.store) c.now }
+    requires conclusion { (q : Provable) → EndsIn (map (step_at (S.trees kernel.old.store)) lemma.items) q →
+        q.conclusion ≡ sequent_at (S.trees kernel.old.store) c.now }
     requires conclusion_known { IsKnown (S.trees kernel.old.store) c.now }
-    ensures linked { IfOk result (λ made. Links (map (step_at (S.trees kernel.old.store)) term.items) (map (step_at (S.trees kernel.old.store)) lemma.items) (map (step_at (S.trees kernel.old.store)) made.items)) }
+    ensures linked { IfOk result (λ made. Links (map (step_at (S.trees kernel.old.store)) term.items) (map (step_at (S.trees kernel.old.store)) lemma.items)
+        (map (step_at (S.trees kernel.old.store)) made.items)) }
     ensures rows { IfOk result (λ made. Takes [] (map (step_at (S.trees kernel.old.store)) made.items) (facts S.trees kernel.new)) }
     ensures known { IfOk result (λ made. All (HasKnownIds (S.trees kernel.old.store)) made.items) }
-    ensures fault { IfErr result (IsLinkFault (LacksGoal (map (step_at (S.trees kernel.old.store)) term.items) (map (step_at (S.trees kernel.old.store)) lemma.items)) (LinksUpTo (map (step_at (S.trees kernel.old.store)) term.items) (map (step_at (S.trees kernel.old.store)) lemma.items))) }
+    ensures fault { IfErr result (IsLinkFault
+        (LacksGoal (map (step_at (S.trees kernel.old.store)) term.items) (map (step_at (S.trees kernel.old.store)) lemma.items))
+        (LinksUpTo (map (step_at (S.trees kernel.old.store)) term.items) (map (step_at (S.trees kernel.old.store)) lemma.items))) }
     ensures grows { S.grows kernel.old.store kernel.new.store }
 {
     let merges = merges_behind(alloc, &*kernel, lemma.len() as u32, c)?;
@@ -159,14 +168,18 @@ pub fn link<S: Store, L: Ledger>(
     requires lemma_known { All (HasKnownIds (S.trees kernel.old.store)) lemma.items }
     requires term_ends { (p : Provable) × EndsIn (map (step_at (S.trees kernel.old.store)) term.items) p }
     requires lemma_ends { (q : Provable) × EndsIn (map (step_at (S.trees kernel.old.store)) lemma.items) q }
-    requires conclusion { (q : Provable) → EndsIn (map (step_at (S.trees kernel.old.store)) lemma.items) q → q.conclusion ≡ sequent_at (S.trees kernel.old.store) c.now }
+    requires conclusion { (q : Provable) → EndsIn (map (step_at (S.trees kernel.old.store)) lemma.items) q →
+        q.conclusion ≡ sequent_at (S.trees kernel.old.store) c.now }
     requires conclusion_known { IsKnown (S.trees kernel.old.store) c.now }
 
-    ensures linked { IfOk result (λ made. Links (map (step_at (S.trees kernel.old.store)) term.items) (map (step_at (S.trees kernel.old.store)) lemma.items) (map (step_at (S.trees kernel.old.store)) made.items)) }
+    ensures linked { IfOk result (λ made. Links (map (step_at (S.trees kernel.old.store)) term.items) (map (step_at (S.trees kernel.old.store)) lemma.items)
+        (map (step_at (S.trees kernel.old.store)) made.items)) }
     ensures rows { IfOk result (λ made. Takes [] (map (step_at (S.trees kernel.old.store)) made.items) (facts S.trees kernel.new)) }
     ensures known { IfOk result (λ made. All (HasKnownIds (S.trees kernel.old.store)) made.items) }
 
-    ensures fault { IfErr result (IsLinkFault (LacksGoal (map (step_at (S.trees kernel.old.store)) term.items) (map (step_at (S.trees kernel.old.store)) lemma.items)) (LinksUpTo (map (step_at (S.trees kernel.old.store)) term.items) (map (step_at (S.trees kernel.old.store)) lemma.items))) }
+    ensures fault { IfErr result (IsLinkFault
+        (LacksGoal (map (step_at (S.trees kernel.old.store)) term.items) (map (step_at (S.trees kernel.old.store)) lemma.items))
+        (LinksUpTo (map (step_at (S.trees kernel.old.store)) term.items) (map (step_at (S.trees kernel.old.store)) lemma.items))) }
     ensures none { OnErr result (kernel.new.rows ≡ []) }
 
     ensures grows { S.grows kernel.old.store kernel.new.store }

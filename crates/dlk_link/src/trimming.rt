@@ -40,7 +40,9 @@ impl Kept {
         ensures few { OnOk result (length self.new.steps.items ≤ length self.old.steps.items + 1) }
         ensures count { OnOk result (length self.new.keys.keys ≡ length self.new.steps.items) }
         ensures err { IfErr result (λ e. e ≡ Memory) }
-        ensures number { IfOk result (λ n. (trees : List Tree) → HasOneId trees → HasKnownIds trees step → AreKeyed trees self.old.steps.items self.old.keys.keys → AreKeyed trees self.new.steps.items self.new.keys.keys × Numbers trees self.old.steps.items step self.new.steps.items n) }
+        ensures number { IfOk result (λ n. (trees : List Tree) → HasOneId trees → HasKnownIds trees step →
+            AreKeyed trees self.old.steps.items self.old.keys.keys →
+            AreKeyed trees self.new.steps.items self.new.keys.keys × Numbers trees self.old.steps.items step self.new.steps.items n) }
     {
         rule_is_its_word_and_arguments();
         let key = StepKey::of(alloc, &step)?;
@@ -71,7 +73,8 @@ pub(crate) fn kept_steps(alloc: Global, term: Vec<Step>) -> Result<(Vec<Step>, u
     requires some { 1 ≤ length term.items }
     requires few { length term.items ≤ most_rows }
     requires earlier { NameEarlier term.items }
-    ensures trimmed { IfOk result (λ kept. (trees : List Tree) → HasOneId trees → All (HasKnownIds trees) term.items → TrimmedFrom (map (step_at trees) term.items) (map (step_at trees) kept.0.items) kept.1) }
+    ensures trimmed { IfOk result (λ kept. (trees : List Tree) → HasOneId trees → All (HasKnownIds trees) term.items →
+        TrimmedFrom (map (step_at trees) term.items) (map (step_at trees) kept.0.items) kept.1) }
     ensures known { IfOk result (λ kept. (trees : List Tree) → HasOneId trees → All (HasKnownIds trees) term.items → All (HasKnownIds trees) kept.0.items) }
     ensures err { IfErr result (λ e. e ≡ Memory) }
 {
@@ -104,7 +107,8 @@ fn trimmed<S: Store, L: Ledger>(
     requires taken { Takes [] (map (step_at (S.trees kernel.old.store)) term.items) (facts S.trees kernel.old) }
     requires known { All (HasKnownIds (S.trees kernel.old.store)) term.items }
     requires some { 1 ≤ length term.items }
-    ensures trimmed { IfOk result (λ kept. Trimmed (map (step_at (S.trees kernel.old.store)) term.items) (map (step_at (S.trees kernel.old.store)) kept.items)) }
+    ensures trimmed { IfOk result (λ kept.
+        Trimmed (map (step_at (S.trees kernel.old.store)) term.items) (map (step_at (S.trees kernel.old.store)) kept.items)) }
     ensures rows { IfOk result (λ kept. Takes [] (map (step_at (S.trees kernel.old.store)) kept.items) (facts S.trees kernel.new)) }
     ensures known { IfOk result (λ kept. All (HasKnownIds (S.trees kernel.old.store)) kept.items) }
     ensures err { IfErr result (λ e. e ≡ Memory) }
@@ -138,7 +142,8 @@ pub fn trim<S: Store, L: Ledger>(
     requires known { All (HasKnownIds (S.trees kernel.old.store)) term.items }
     requires some { 1 ≤ length term.items }
 
-    ensures trimmed { IfOk result (λ kept. Trimmed (map (step_at (S.trees kernel.old.store)) term.items) (map (step_at (S.trees kernel.old.store)) kept.items)) }
+    ensures trimmed { IfOk result (λ kept.
+        Trimmed (map (step_at (S.trees kernel.old.store)) term.items) (map (step_at (S.trees kernel.old.store)) kept.items)) }
     ensures rows { IfOk result (λ kept. Takes [] (map (step_at (S.trees kernel.old.store)) kept.items) (facts S.trees kernel.new)) }
     ensures known { IfOk result (λ kept. All (HasKnownIds (S.trees kernel.old.store)) kept.items) }
 

@@ -13,35 +13,36 @@ ghost use Rattle.dlk_grammar.specs.Grammar.{Nonterminal, Reads, Sides, ReadsSequ
 ghost use Rattle.dlk_grammar.specs.Readings.{Says, Stops, grammar};
 ghost use Rattle.dlk_grammar.specs.Substitutions.{PairPhrase, ReadsSubstitution};
 ghost use Rattle.dlk_grammar.specs.Extras.{ExtraPhrase, ReadsExtra};
-ghost use Rattle.dlk_grammar.specs.Texts.{TreeText, SequentText, PairsText, ExtraText, TextFault, TreeTextFault, SequentTextFault, PairsTextFault, ExtraTextFault};
+ghost use Rattle.dlk_grammar.specs.Texts.{TreeText, SequentText, PairsText, ExtraText, TextFault, TreeTextFault, SequentTextFault, PairsTextFault};
+ghost use Rattle.dlk_grammar.specs.Texts.{ExtraTextFault};
 ghost use Rattle.dlk_machine.specs.Symbols.{ReplacesSymbol};
 
-/// Lexemes are at most one phrase of each nonterminal.
+/// Lexemes are at most one phrase of each nonterminal. The statement of reading asks for it.
 pub fn one_phrase()
     ensures { (n : Nonterminal) (s : List Lexeme) (p q : Phrase) → Reads n s p → Reads n s q → p ≡ q }
 {}
 
-/// Lexemes are at most one expression.
+/// Lexemes are at most one expression. The statement of reading asks for it.
 pub fn one_expression()
     ensures { (s : List Lexeme) (p q : Phrase) → ReadsExpression s p → ReadsExpression s q → p ≡ q }
 {}
 
-/// Lexemes are the two sides of at most one sequent.
+/// Lexemes are the two sides of at most one sequent. The statement of reading asks for it.
 pub fn one_sides()
     ensures { (s : List Lexeme) (p q : Sides) → ReadsSequent s p → ReadsSequent s q → p ≡ q }
 {}
 
-/// Lexemes are the pairs of at most one substitution.
+/// Lexemes are the pairs of at most one substitution. The statement of reading asks for it.
 pub fn one_pairs()
     ensures { (s : List Lexeme) (p q : List PairPhrase) → ReadsSubstitution s p → ReadsSubstitution s q → p ≡ q }
 {}
 
-/// Lexemes are the renames and the pairs of at most one extra.
+/// Lexemes are the renames and the pairs of at most one extra. The statement of reading asks for it.
 pub fn one_extra()
     ensures { (s : List Lexeme) (p q : ExtraPhrase) → ReadsExtra s p → ReadsExtra s q → p ≡ q }
 {}
 
-/// The first lexeme at which no text of a form goes on is one.
+/// The first lexeme at which no text of a form goes on is one. The statement of reading asks for it.
 pub fn one_stop()
     ensures trees { (form : TheForm) (d : TheDots) (s : List Lexeme) (i j : ℕ) → Stops d (grammar form) s i → Stops d (grammar form) s j → i ≡ j }
     ensures sequents { (d : TheDots) (s : List Lexeme) (i j : ℕ) → Stops d ReadsSequent s i → Stops d ReadsSequent s j → i ≡ j }
@@ -49,7 +50,7 @@ pub fn one_stop()
     ensures extras { (d : TheDots) (s : List Lexeme) (i j : ℕ) → Stops d ReadsExtra s i → Stops d ReadsExtra s j → i ≡ j }
 {}
 
-/// A text of a form stops nowhere.
+/// A text of a form stops nowhere. The statement of reading asks for it.
 pub fn no_stop()
     ensures trees { (form : TheForm) (d : TheDots) (s : List Lexeme) (p : Phrase) (i : ℕ) → Says d (grammar form) s p → Stops d (grammar form) s i → ⊥ }
     ensures sequents { (d : TheDots) (s : List Lexeme) (p : Sides) (i : ℕ) → Says d ReadsSequent s p → Stops d ReadsSequent s i → ⊥ }
@@ -71,7 +72,8 @@ pub fn tree_texts()
     ensures formulas { (bytes : List ℕ) (t : Tree) → TreeText Formula Refused bytes t → IsFormula t }
 {}
 
-/// The same of the texts of sequents, each of formulas without argument dots.
+/// Bytes are a text of one sequent or have one fault, and never both. Its formulas are formulas without argument dots.
+/// The statement of reading asks for it.
 pub fn sequent_texts()
     ensures one { (bytes : List ℕ) (s z : Sequent) → SequentText bytes s → SequentText bytes z → s ≡ z }
     ensures no_fault { (bytes : List ℕ) (s : Sequent) (why : TextFault) → SequentText bytes s → SequentTextFault bytes why → ⊥ }
@@ -80,7 +82,8 @@ pub fn sequent_texts()
     ensures formulas { (bytes : List ℕ) (s : Sequent) → SequentText bytes s → IsSequent s }
 {}
 
-/// The same of the texts of the pairs of a substitution, each of whose replacements is well made. What a pair replaces is a symbol.
+/// Bytes are a text of the pairs of one substitution or have one fault, and never both. Each replacement is well made, and
+/// what a pair replaces is a symbol. The statement of reading asks for it.
 pub fn pairs_texts()
     ensures one { (bytes : List ℕ) (pairs others : List Pair) → PairsText bytes pairs → PairsText bytes others → pairs ≡ others }
     ensures no_fault { (bytes : List ℕ) (pairs : List Pair) (why : TextFault) → PairsText bytes pairs → PairsTextFault bytes why → ⊥ }

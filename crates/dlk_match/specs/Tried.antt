@@ -54,7 +54,8 @@ IsLike key target old new = IsNamedLike (name_in key) key target old new
 abbrev pub HeadIs : Op → Forest → Tree → List Tree → Extra → Extra → Head → Type 0
 HeadIs op keys e trees old new Refused = (other : Extra) → Matches (node op keys) e old other → ⊥
 HeadIs op keys e trees old new Taken = Matches (node op keys) e old new
-HeadIs op keys e trees old new (Left es) = All (IsId trees) es.items × ((other : Extra) → Matches (node op keys) e old other ↔ MatchesAll keys (kid_trees trees es.items) new other)
+HeadIs op keys e trees old new (Left es) = All (IsId trees) es.items ×
+    ((other : Extra) → Matches (node op keys) e old other ↔ MatchesAll keys (kid_trees trees es.items) new other)
 
 -- the operator is no symbol's and no system's
 abbrev pub is_other : Op → Bool

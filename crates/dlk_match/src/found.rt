@@ -77,7 +77,9 @@ pub fn matching<S: Store, L: Ledger>(
     requires key { IsId (S.trees store.old) key }
     requires target { IsId (S.trees store.old) target }
     requires given { IsKnownExtra (S.trees store.old) given.now }
-    ensures found { IfOk result (λ found. MatchOption found (HasNoMatch (tree (S.trees store.old) key) own.now (tree (S.trees store.old) target) (extra_at (S.trees store.old) given.now)) (IsMatch (tree (S.trees store.old) key) own.now (tree (S.trees store.old) target) (extra_at (S.trees store.old) given.now) (S.trees store.new))) }
+    ensures found { IfOk result (λ found.
+        MatchOption found (HasNoMatch (tree (S.trees store.old) key) own.now (tree (S.trees store.old) target) (extra_at (S.trees store.old) given.now))
+        (IsMatch (tree (S.trees store.old) key) own.now (tree (S.trees store.old) target) (extra_at (S.trees store.old) given.now) (S.trees store.new))) }
     ensures grows { S.grows store.old store.new }
 {
     if !are_given(own, given.renames.as_slice()) {

@@ -94,7 +94,8 @@ fn match_other<S: Store, L: Ledger>(
 ) -> Result<Head, AllocError>
     requires other { IsTrue (is_other op.now) }
     requires target { IsId (S.trees store.now) target }
-    ensures matched { (keys : Forest) → IfOk result (HeadIs op.now keys (tree (S.trees store.now) target) (S.trees store.now) (extra_at (S.trees store.now) extra.old) (extra_at (S.trees store.now) extra.new)) }
+    ensures matched { (keys : Forest) → IfOk result (HeadIs op.now keys (tree (S.trees store.now) target) (S.trees store.now)
+        (extra_at (S.trees store.now) extra.old) (extra_at (S.trees store.now) extra.new)) }
     ensures pairs { extra.new.pairs ≡ extra.old.pairs }
 {
     let node = store.look(target, steps);
@@ -112,7 +113,8 @@ fn argument<S: Store, L: Ledger>(
     steps: &mut Steps<L>,
 ) -> Result<Option<Var>, AllocError>
     requires { All (IsId (S.trees store.now)) kids.now }
-    ensures { IfOk result (λ found. MatchOption found (IsNoArgument renames.now (kid_trees (S.trees store.now) kids.now)) (IsArgument renames.now (kid_trees (S.trees store.now) kids.now))) }
+    ensures { IfOk result (λ found. MatchOption found (IsNoArgument renames.now (kid_trees (S.trees store.now) kids.now))
+        (IsArgument renames.now (kid_trees (S.trees store.now) kids.now))) }
 {
     if kids.len() != 1 {
         return Ok(None);
@@ -142,7 +144,8 @@ fn apply<S: Store, L: Ledger>(
     requires extra { IsKnownExtra (S.trees store.old) extra.old }
     requires kids { All (IsId (S.trees store.old)) kids.now }
     requires e { IsId (S.trees store.old) e }
-    ensures matched { IfOk result (Tried (Application s.now (kid_trees (S.trees store.old) kids.now) (tree (S.trees store.old) e)) (extra_at (S.trees store.old) extra.old) (extra_at (S.trees store.new) extra.new)) }
+    ensures matched { IfOk result (Tried (Application s.now (kid_trees (S.trees store.old) kids.now) (tree (S.trees store.old) e))
+        (extra_at (S.trees store.old) extra.old) (extra_at (S.trees store.new) extra.new)) }
     ensures known { IsKnownExtra (S.trees store.new) extra.new }
     ensures grows { S.grows store.old store.new }
 {
@@ -176,7 +179,8 @@ pub(crate) fn match_node<S: Store, L: Ledger>(
     requires extra { IsKnownExtra (S.trees store.old) extra.old }
     requires keys { All (IsId (S.trees store.old)) keys.now }
     requires target { IsId (S.trees store.old) target }
-    ensures matched { IfOk result (HeadIs op.now (kid_trees (S.trees store.old) keys.now) (tree (S.trees store.old) target) (S.trees store.new) (extra_at (S.trees store.old) extra.old) (extra_at (S.trees store.new) extra.new)) }
+    ensures matched { IfOk result (HeadIs op.now (kid_trees (S.trees store.old) keys.now) (tree (S.trees store.old) target) (S.trees store.new)
+        (extra_at (S.trees store.old) extra.old) (extra_at (S.trees store.new) extra.new)) }
     ensures known { IsKnownExtra (S.trees store.new) extra.new }
     ensures grows { S.grows store.old store.new }
 {

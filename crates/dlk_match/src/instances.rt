@@ -22,17 +22,23 @@ use dlk_calculus::laws::axiom_formulas;
 /// With the names and the pairs with which an axiom's key matches a target, the key becomes the target, or nothing. The key is
 /// well made, and only the axiom's own names stand in it; the target is well made, and no argument dot stands in it.
 pub fn match_gives_target()
-    ensures { (own : List (List ℕ)) (key target : Tree) (given extra : Extra) (t : Tree) → HasOwnNames own key → WellMade key → WellMade target → has_dots target ≡ false → Match key own target given extra → IsWellFormed extra.pairs → Subst extra.pairs (exchanged extra.renames key) t → t ≡ target }
+    ensures { (own : List (List ℕ)) (key target : Tree) (given extra : Extra) (t : Tree) → HasOwnNames own key → WellMade key → WellMade target →
+        has_dots target ≡ false → Match key own target given extra → IsWellFormed extra.pairs → Subst extra.pairs (exchanged extra.renames key) t → t ≡ target }
 {}
 
 /// The names that an axiom gets by a match are given to its own names alone, to each at most one; no two of them are one, and none is
 /// another of the axiom's own. Where the given names are names and the given replacements well made, all are; and where given
 /// replacements are of symbols, all are.
 pub fn match_is_proper()
-    ensures given { (own : List (List ℕ)) (key target : Tree) (given extra : Extra) → HasOwnNames own key → Match key own target given extra → AreGiven own extra.renames × AreApart own extra.renames }
-    ensures names { (own : List (List ℕ)) (key target : Tree) (given extra : Extra) → WellMade key → WellMade target → has_dots target ≡ false → AreNames given.renames → Match key own target given extra → AreNames extra.renames }
-    ensures made { (own : List (List ℕ)) (key target : Tree) (given extra : Extra) → WellMade key → WellMade target → has_dots target ≡ false → AreWellMade given.pairs → Match key own target given extra → AreWellMade extra.pairs }
-    ensures symbols { (own : List (List ℕ)) (key target : Tree) (given extra : Extra) → WellMade key → WellMade target → has_dots target ≡ false → AreNames given.renames → All (λ (p : Pair). is_sym p.sym ≡ true) given.pairs → Match key own target given extra → All (λ (p : Pair). is_sym p.sym ≡ true) extra.pairs }
+    ensures given { (own : List (List ℕ)) (key target : Tree) (given extra : Extra) → HasOwnNames own key → Match key own target given extra →
+        AreGiven own extra.renames × AreApart own extra.renames }
+    ensures names { (own : List (List ℕ)) (key target : Tree) (given extra : Extra) → WellMade key → WellMade target → has_dots target ≡ false →
+        AreNames given.renames → Match key own target given extra → AreNames extra.renames }
+    ensures made { (own : List (List ℕ)) (key target : Tree) (given extra : Extra) → WellMade key → WellMade target → has_dots target ≡ false →
+        AreWellMade given.pairs → Match key own target given extra → AreWellMade extra.pairs }
+    ensures symbols { (own : List (List ℕ)) (key target : Tree) (given extra : Extra) → WellMade key → WellMade target → has_dots target ≡ false →
+        AreNames given.renames → All (λ (p : Pair). is_sym p.sym ≡ true) given.pairs → Match key own target given extra →
+        All (λ (p : Pair). is_sym p.sym ≡ true) extra.pairs }
 {}
 
 /// What a well-made key matches is of the key's sort.
@@ -47,7 +53,8 @@ pub fn axioms_have_own_names()
     ensures made { (name : List ℕ) (a : Axiom) → axiom_named name ≡ Some a → WellMade a.formula }
     ensures kids_names { (own : List (List ℕ)) (op : Op) (kids : Forest) → HasOwnNames own (node op kids) → All (HasOwnNames own) (trees_in kids) }
     ensures kids_made { (op : Op) (kids : Forest) → WellMade (node op kids) → All WellMade (trees_in kids) }
-    ensures ends_names { (own : List (List ℕ)) (op : Op) (kids : Forest) → HasOwnNames own (node op kids) → HasOwnNames own (first kids) × HasOwnNames own (last kids) }
+    ensures ends_names { (own : List (List ℕ)) (op : Op) (kids : Forest) → HasOwnNames own (node op kids) →
+        HasOwnNames own (first kids) × HasOwnNames own (last kids) }
     ensures ends_made { (op : Op) (kids : Forest) → WellMade (node op kids) → WellMade (first kids) × WellMade (last kids) }
 {
     axiom_formulas();
@@ -62,7 +69,8 @@ pub fn plugged_back()
 /// Names that are given to an axiom, with none that becomes another, are exchanged as if all were at once: each of its own names
 /// becomes the one that it gets.
 pub fn exchanged_at_once()
-    ensures { (own : List (List ℕ)) (renames : List (List ℕ × List ℕ)) (v : Var) → AreGiven own renames → AreApart own renames → IsTrue (is_own own v.name) → exchanged renames (node (Variable v) no_kids) ≡ node (Variable (record { name = renamed_taboo renames v.name; primed = v.primed })) no_kids }
+    ensures { (own : List (List ℕ)) (renames : List (List ℕ × List ℕ)) (v : Var) → AreGiven own renames → AreApart own renames → IsTrue (is_own own v.name) →
+        exchanged renames (node (Variable v) no_kids) ≡ node (Variable (record { name = renamed_taboo renames v.name; primed = v.primed })) no_kids }
 {}
 
 /// In an equivalence, an implication and an equation names are exchanged on both sides.
@@ -75,9 +83,12 @@ pub fn exchanged_over_kids()
 /// A substitution makes an equivalence of an equivalence, an implication of an implication and an equation of an equation, side by
 /// side.
 pub fn subst_over_kids()
-    ensures equivalence { (pairs : List Pair) (l r t : Tree) → Subst pairs (equiv l r) t → (m : Tree) × (s : Tree) × (t ≡ equiv m s) × Subst pairs l m × Subst pairs r s }
-    ensures implication { (pairs : List Pair) (l r t : Tree) → Subst pairs (imply l r) t → (m : Tree) × (s : Tree) × (t ≡ imply m s) × Subst pairs l m × Subst pairs r s }
-    ensures equation { (pairs : List Pair) (l r t : Tree) → Subst pairs (eq l r) t → (m : Tree) × (s : Tree) × (t ≡ eq m s) × Subst pairs l m × Subst pairs r s }
+    ensures equivalence { (pairs : List Pair) (l r t : Tree) → Subst pairs (equiv l r) t →
+        (m : Tree) × (s : Tree) × (t ≡ equiv m s) × Subst pairs l m × Subst pairs r s }
+    ensures implication { (pairs : List Pair) (l r t : Tree) → Subst pairs (imply l r) t →
+        (m : Tree) × (s : Tree) × (t ≡ imply m s) × Subst pairs l m × Subst pairs r s }
+    ensures equation { (pairs : List Pair) (l r t : Tree) → Subst pairs (eq l r) t →
+        (m : Tree) × (s : Tree) × (t ≡ eq m s) × Subst pairs l m × Subst pairs r s }
 {}
 
 /// A substitution without pairs makes of a well-made tree that tree.

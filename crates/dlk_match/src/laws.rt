@@ -11,5 +11,6 @@ pub fn one_match()
 
 /// Whether a key matches a tree is decided: it does so with some names and pairs, or with none.
 pub fn some_match()
-    ensures { (own : List (List ℕ)) (key e : Tree) (given : Extra) → ((extra : Extra) × Match key own e given extra) ⊎ ((extra : Extra) → ¬ Match key own e given extra) }
+    ensures { (own : List (List ℕ)) (key e : Tree) (given : Extra) →
+        ((extra : Extra) × Match key own e given extra) ⊎ ((extra : Extra) → ¬ Match key own e given extra) }
 {}

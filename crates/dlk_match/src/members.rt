@@ -60,7 +60,8 @@ impl<'a> Members<'a> {
     /// The equation that is the only member, with its right side.
     fn equation(&self) -> Option<(&'a Name, Id)>
         requires { length (evolved self.now.items.now) ≤ length self.now.kids.now }
-        ensures { (trees : List Tree) → AreWellMade trees self.now → MatchOption result (IsNoEquation trees self.now) (λ found. IsEquation trees self.now found.0.now found.1) }
+        ensures { (trees : List Tree) → AreWellMade trees self.now →
+            MatchOption result (IsNoEquation trees self.now) (λ found. IsEquation trees self.now found.0.now found.1) }
     {
         if self.items.len() != 1 {
             return None;
@@ -96,7 +97,8 @@ fn take_system<S: Store, L: Ledger>(
 ) -> Result<bool, StoreFault>
     requires extra { IsKnownExtra (S.trees store.old) extra.old }
     requires members { AreWellMade (S.trees store.old) ms.now }
-    ensures matched { IfOk result (Tried (GetsReplacement s.now (system_of (members_at (S.trees store.old) ms.now))) (extra_at (S.trees store.old) extra.old) (extra_at (S.trees store.new) extra.new)) }
+    ensures matched { IfOk result (Tried (GetsReplacement s.now (system_of (members_at (S.trees store.old) ms.now))) (extra_at (S.trees store.old) extra.old)
+        (extra_at (S.trees store.new) extra.new)) }
     ensures known { IsKnownExtra (S.trees store.new) extra.new }
     ensures grows { S.grows store.old store.new }
 {
@@ -125,7 +127,8 @@ fn leaving(is: bool, e: Id) -> Taking
 /// An equation takes the only member.
 fn take_equation(extra: &mut Extra, x: &Name, ms: &Members<'_>) -> Result<Taking, AllocError>
     requires { length (evolved ms.now.items.now) ≤ length ms.now.kids.now }
-    ensures matched { IfOk result (λ taking. (trees : List Tree) → AreWellMade trees ms.now → TakingIs (OdeItem.Evolve x.now ∷ []) (members_at trees ms.now) trees (extra_at trees extra.old) (extra_at trees extra.new) taking) }
+    ensures matched { IfOk result (λ taking. (trees : List Tree) → AreWellMade trees ms.now →
+        TakingIs (OdeItem.Evolve x.now ∷ []) (members_at trees ms.now) trees (extra_at trees extra.old) (extra_at trees extra.new) taking) }
     ensures pairs { extra.new.pairs ≡ extra.old.pairs }
 {
     let Some((y, e)) = ms.equation() else {
@@ -146,7 +149,8 @@ fn take_first<S: Store, L: Ledger>(
 ) -> Result<Taking, StoreFault>
     requires extra { IsKnownExtra (S.trees store.old) extra.old }
     requires members { AreWellMade (S.trees store.old) ms.now }
-    ensures matched { IfOk result (TakingIs (OdeItem.Evolve x.now ∷ OdeItem.Const s.now ∷ []) (members_at (S.trees store.old) ms.now) (S.trees store.new) (extra_at (S.trees store.old) extra.old) (extra_at (S.trees store.new) extra.new)) }
+    ensures matched { IfOk result (TakingIs (OdeItem.Evolve x.now ∷ OdeItem.Const s.now ∷ []) (members_at (S.trees store.old) ms.now) (S.trees store.new)
+        (extra_at (S.trees store.old) extra.old) (extra_at (S.trees store.new) extra.new)) }
     ensures known { IsKnownExtra (S.trees store.new) extra.new }
     ensures grows { S.grows store.old store.new }
 {
@@ -175,7 +179,8 @@ fn take_last<S: Store, L: Ledger>(
 ) -> Result<Taking, StoreFault>
     requires extra { IsKnownExtra (S.trees store.old) extra.old }
     requires members { AreWellMade (S.trees store.old) ms.now }
-    ensures matched { IfOk result (TakingIs (OdeItem.Const s.now ∷ OdeItem.Evolve x.now ∷ []) (members_at (S.trees store.old) ms.now) (S.trees store.new) (extra_at (S.trees store.old) extra.old) (extra_at (S.trees store.new) extra.new)) }
+    ensures matched { IfOk result (TakingIs (OdeItem.Const s.now ∷ OdeItem.Evolve x.now ∷ []) (members_at (S.trees store.old) ms.now) (S.trees store.new)
+        (extra_at (S.trees store.old) extra.old) (extra_at (S.trees store.new) extra.new)) }
     ensures known { IsKnownExtra (S.trees store.new) extra.new }
     ensures grows { S.grows store.old store.new }
 {
@@ -203,7 +208,8 @@ fn take_both<S: Store, L: Ledger>(
 ) -> Result<Taking, StoreFault>
     requires extra { IsKnownExtra (S.trees store.old) extra.old }
     requires members { AreWellMade (S.trees store.old) ms.now }
-    ensures matched { IfOk result (TakingIs (OdeItem.Const s.now ∷ OdeItem.Const t.now ∷ []) (members_at (S.trees store.old) ms.now) (S.trees store.new) (extra_at (S.trees store.old) extra.old) (extra_at (S.trees store.new) extra.new)) }
+    ensures matched { IfOk result (TakingIs (OdeItem.Const s.now ∷ OdeItem.Const t.now ∷ []) (members_at (S.trees store.old) ms.now) (S.trees store.new)
+        (extra_at (S.trees store.old) extra.old) (extra_at (S.trees store.new) extra.new)) }
     ensures known { IsKnownExtra (S.trees store.new) extra.new }
     ensures grows { S.grows store.old store.new }
 {
@@ -228,7 +234,8 @@ fn take_by_one<S: Store, L: Ledger>(
 ) -> Result<Taking, StoreFault>
     requires extra { IsKnownExtra (S.trees store.old) extra.old }
     requires members { AreWellMade (S.trees store.old) ms.now }
-    ensures matched { IfOk result (TakingIs (item.now ∷ []) (members_at (S.trees store.old) ms.now) (S.trees store.new) (extra_at (S.trees store.old) extra.old) (extra_at (S.trees store.new) extra.new)) }
+    ensures matched { IfOk result (TakingIs (item.now ∷ []) (members_at (S.trees store.old) ms.now) (S.trees store.new) (extra_at (S.trees store.old) extra.old)
+        (extra_at (S.trees store.new) extra.new)) }
     ensures known { IsKnownExtra (S.trees store.new) extra.new }
     ensures grows { S.grows store.old store.new }
 {
@@ -250,7 +257,8 @@ fn take_by_two<S: Store, L: Ledger>(
 ) -> Result<Taking, StoreFault>
     requires extra { IsKnownExtra (S.trees store.old) extra.old }
     requires members { AreWellMade (S.trees store.old) ms.now }
-    ensures matched { IfOk result (TakingIs (first.now ∷ second.now ∷ []) (members_at (S.trees store.old) ms.now) (S.trees store.new) (extra_at (S.trees store.old) extra.old) (extra_at (S.trees store.new) extra.new)) }
+    ensures matched { IfOk result (TakingIs (first.now ∷ second.now ∷ []) (members_at (S.trees store.old) ms.now) (S.trees store.new)
+        (extra_at (S.trees store.old) extra.old) (extra_at (S.trees store.new) extra.new)) }
     ensures known { IsKnownExtra (S.trees store.new) extra.new }
     ensures grows { S.grows store.old store.new }
 {
@@ -277,7 +285,8 @@ fn take_members<S: Store, L: Ledger>(
 ) -> Result<Taking, StoreFault>
     requires extra { IsKnownExtra (S.trees store.old) extra.old }
     requires members { AreWellMade (S.trees store.old) ms.now }
-    ensures matched { IfOk result (TakingIs items.now (members_at (S.trees store.old) ms.now) (S.trees store.new) (extra_at (S.trees store.old) extra.old) (extra_at (S.trees store.new) extra.new)) }
+    ensures matched { IfOk result (TakingIs items.now (members_at (S.trees store.old) ms.now) (S.trees store.new) (extra_at (S.trees store.old) extra.old)
+        (extra_at (S.trees store.new) extra.new)) }
     ensures known { IsKnownExtra (S.trees store.new) extra.new }
     ensures grows { S.grows store.old store.new }
 {
@@ -310,7 +319,8 @@ pub(crate) fn match_system<S: Store, L: Ledger>(
 ) -> Result<Head, StoreFault>
     requires extra { IsKnownExtra (S.trees store.old) extra.old }
     requires target { IsId (S.trees store.old) target }
-    ensures matched { (keys : Forest) → IfOk result (HeadIs (System items.now) keys (tree (S.trees store.old) target) (S.trees store.new) (extra_at (S.trees store.old) extra.old) (extra_at (S.trees store.new) extra.new)) }
+    ensures matched { (keys : Forest) → IfOk result (HeadIs (System items.now) keys (tree (S.trees store.old) target) (S.trees store.new)
+        (extra_at (S.trees store.old) extra.old) (extra_at (S.trees store.new) extra.new)) }
     ensures known { IsKnownExtra (S.trees store.new) extra.new }
     ensures grows { S.grows store.old store.new }
 {

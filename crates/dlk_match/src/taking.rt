@@ -60,7 +60,8 @@ pub(crate) fn replace<S: Store, L: Ledger>(
 ) -> Result<bool, AllocError>
     requires extra { IsKnownExtra (S.trees store.now) extra.old }
     requires e { IsId (S.trees store.now) e }
-    ensures matched { IfOk result (Tried (GetsReplacement s.now (tree (S.trees store.now) e)) (extra_at (S.trees store.now) extra.old) (extra_at (S.trees store.now) extra.new)) }
+    ensures matched { IfOk result
+        (Tried (GetsReplacement s.now (tree (S.trees store.now) e)) (extra_at (S.trees store.now) extra.old) (extra_at (S.trees store.now) extra.new)) }
     ensures known { IsKnownExtra (S.trees store.now) extra.new }
 {
     if sort_of(store.look(e, steps).op) != kind_row(s.kind).sort {

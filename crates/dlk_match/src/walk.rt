@@ -69,7 +69,8 @@ fn match_roots<S: Store, L: Ledger>(
     requires extra { IsKnownExtra (S.trees store.old) extra.old }
     requires key { IsId (S.trees store.old) key }
     requires target { IsId (S.trees store.old) target }
-    ensures matched { IfOk result (RestIs (S.trees store.old) (S.trees store.new) (tree (S.trees store.old) key) (tree (S.trees store.old) target) (extra_at (S.trees store.old) extra.old) (extra_at (S.trees store.new) extra.new)) }
+    ensures matched { IfOk result (RestIs (S.trees store.old) (S.trees store.new) (tree (S.trees store.old) key) (tree (S.trees store.old) target)
+        (extra_at (S.trees store.old) extra.old) (extra_at (S.trees store.new) extra.new)) }
     ensures known { IsKnownExtra (S.trees store.new) extra.new }
     ensures grows { S.grows store.old store.new }
 {
@@ -90,7 +91,8 @@ pub(crate) fn match_tree<S: Store, L: Ledger>(
     requires extra { IsKnownExtra (S.trees store.old) extra.old }
     requires key { IsId (S.trees store.old) key }
     requires target { IsId (S.trees store.old) target }
-    ensures matched { IfOk result (Tried (Matches (tree (S.trees store.old) key) (tree (S.trees store.old) target)) (extra_at (S.trees store.old) extra.old) (extra_at (S.trees store.new) extra.new)) }
+    ensures matched { IfOk result (Tried (Matches (tree (S.trees store.old) key) (tree (S.trees store.old) target)) (extra_at (S.trees store.old) extra.old)
+        (extra_at (S.trees store.new) extra.new)) }
     ensures known { IsKnownExtra (S.trees store.new) extra.new }
     ensures grows { S.grows store.old store.new }
 {

@@ -80,8 +80,10 @@ pub(crate) trait Rule {
         requires old { All (IsId (S.trees store.old)) old.now }
         requires new { All (IsId (S.trees store.old)) new.now }
         requires fits { Fits (root (tree (S.trees store.old) id)) (sorts_at (S.trees store.old) new.now) }
-        ensures ok { IfOk result (IsResult (MakesAt (job self.now (S.trees store.old)) (root (tree (S.trees store.old) id)) (kid_trees (S.trees store.old) old.now) (kid_trees (S.trees store.old) new.now)) (S.trees store.new)) }
-        ensures none { result ≡ Err NotAdmissible → HasNone (MakesAt (job self.now (S.trees store.old)) (root (tree (S.trees store.old) id)) (kid_trees (S.trees store.old) old.now) (kid_trees (S.trees store.old) new.now)) }
+        ensures ok { IfOk result (IsResult (MakesAt (job self.now (S.trees store.old)) (root (tree (S.trees store.old) id))
+            (kid_trees (S.trees store.old) old.now) (kid_trees (S.trees store.old) new.now)) (S.trees store.new)) }
+        ensures none { result ≡ Err NotAdmissible → HasNone (MakesAt (job self.now (S.trees store.old)) (root (tree (S.trees store.old) id))
+            (kid_trees (S.trees store.old) old.now) (kid_trees (S.trees store.old) new.now)) }
         ensures grows { S.grows store.old store.new }
         ensures cost { IsTrue S.unique → steps.new ≤ steps.old + looks (job self.now (S.trees store.old)) };
 

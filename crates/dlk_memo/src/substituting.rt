@@ -99,8 +99,11 @@ fn fill_admissible<S: Store, L: Ledger>(
     requires new { All (IsId (S.trees store.old)) new.now }
     requires some { 0 < length new.now }
     requires formula { sort (first (kid_trees (S.trees store.old) new.now)) ≡ Formula }
-    ensures ok { IfOk result (IsResult (λ t. IsAdmissible (pairs_at (S.trees store.old) pairs.now) all (kid_trees (S.trees store.old) old.now) × (t ≡ filled (first (kid_trees (S.trees store.old) new.now)) (tree (S.trees store.old) by))) (S.trees store.new)) }
-    ensures none { result ≡ Err NotAdmissible → HasNone (λ t. IsAdmissible (pairs_at (S.trees store.old) pairs.now) all (kid_trees (S.trees store.old) old.now) × (t ≡ filled (first (kid_trees (S.trees store.old) new.now)) (tree (S.trees store.old) by))) }
+    ensures ok { IfOk result (IsResult (λ t. IsAdmissible (pairs_at (S.trees store.old) pairs.now) all (kid_trees (S.trees store.old) old.now) ×
+        (t ≡ filled (first (kid_trees (S.trees store.old) new.now)) (tree (S.trees store.old) by))) (S.trees store.new)) }
+    ensures none { result ≡ Err NotAdmissible →
+        HasNone (λ t. IsAdmissible (pairs_at (S.trees store.old) pairs.now) all (kid_trees (S.trees store.old) old.now) ×
+        (t ≡ filled (first (kid_trees (S.trees store.old) new.now)) (tree (S.trees store.old) by))) }
     ensures owed { ¬ IsAdmissible (pairs_at (S.trees store.old) pairs.now) all (kid_trees (S.trees store.old) old.now) → result ≡ Err NotAdmissible }
     ensures grows { S.grows store.old store.new }
     ensures cost { IsTrue S.unique → steps.new ≤ steps.old + distinct_count (subtrees (tree (S.trees store.old) by)) }

@@ -33,7 +33,8 @@ fn open<S: Store, L: Ledger, R: Rule>(
     ensures tree { IfOk result (λ r. tree (S.trees store.now) id ≡ node (root (tree (S.trees store.now) id)) (kid_trees (S.trees store.now) r.1)) }
     ensures task { IfOk result (λ r. R.IsTask rule.now (root (tree (S.trees store.now) id)) r.0) }
     ensures kids { IfOk result (λ r. All (IsId (S.trees store.now)) r.1) }
-    ensures allowed { IfOk result (λ r. R.Allows (R.job rule.now (S.trees store.now)) (root (tree (S.trees store.now) id)) (kid_trees (S.trees store.now) r.1)) }
+    ensures allowed { IfOk result (λ r.
+        R.Allows (R.job rule.now (S.trees store.now)) (root (tree (S.trees store.now) id)) (kid_trees (S.trees store.now) r.1)) }
     ensures none { result ≡ Err NotAdmissible → HasNone (R.Makes (R.job rule.now (S.trees store.now)) (tree (S.trees store.now) id)) }
     ensures opened { OnOk result (Opened done.old done.new id steps.old steps.new) }
     ensures err { OnErr result (Opened done.old done.new id steps.old steps.new ⊎ Unopened done.old done.new steps.old steps.new) }
@@ -70,8 +71,10 @@ fn conclude<S: Store, L: Ledger, R: Rule>(
     requires new { All (IsId (S.trees store.old)) new.now }
     requires fits { Fits (root (tree (S.trees store.old) id)) (sorts_at (S.trees store.old) new.now) }
     requires once { HasEachOnce done.old }
-    ensures ok { IfOk result (IsResult (R.MakesAt (R.job rule.now (S.trees store.old)) (root (tree (S.trees store.old) id)) (kid_trees (S.trees store.old) old.now) (kid_trees (S.trees store.old) new.now)) (S.trees store.new)) }
-    ensures none { result ≡ Err NotAdmissible → HasNone (R.MakesAt (R.job rule.now (S.trees store.old)) (root (tree (S.trees store.old) id)) (kid_trees (S.trees store.old) old.now) (kid_trees (S.trees store.old) new.now)) }
+    ensures ok { IfOk result (IsResult (R.MakesAt (R.job rule.now (S.trees store.old)) (root (tree (S.trees store.old) id))
+        (kid_trees (S.trees store.old) old.now) (kid_trees (S.trees store.old) new.now)) (S.trees store.new)) }
+    ensures none { result ≡ Err NotAdmissible → HasNone (R.MakesAt (R.job rule.now (S.trees store.old)) (root (tree (S.trees store.old) id))
+        (kid_trees (S.trees store.old) old.now) (kid_trees (S.trees store.old) new.now)) }
     ensures grows { S.grows store.old store.new }
     ensures put { IfOk result (λ made. Puts done.old done.new id (Some made)) }
     ensures err { OnErr result (done.new ≡ done.old) }
@@ -104,7 +107,8 @@ fn walk<S: Store, L: Ledger, R: Rule>(
     ensures grows { S.grows store.old store.new }
     ensures right { OnOk result (IsRight (R.Makes (R.job rule.now (S.trees store.old))) (S.trees store.new) done.new) }
     ensures opens { OnOk result (OpensNone done.old done.new) }
-    ensures spends { Spends S.unique (1 + R.looks (R.job rule.now (S.trees store.old))) (tree (S.trees store.old) id) (S.trees store.new) done.old done.new steps.old steps.new }
+    ensures spends { Spends S.unique (1 + R.looks (R.job rule.now (S.trees store.old))) (tree (S.trees store.old) id)
+        (S.trees store.new) done.old done.new steps.old steps.new }
     ensures unlooked { R.may_change (R.job rule.now (S.trees store.old)) (tree (S.trees store.old) id) ≡ false → steps.new ≡ steps.old }
 {
     if !rule.may_change(store, id) {
@@ -146,7 +150,8 @@ pub(crate) fn run<S: Store, L: Ledger, R: Rule>(
     ensures ok { IfOk result (IsResult (R.Makes (R.job rule.now (S.trees store.old)) (tree (S.trees store.old) id)) (S.trees store.new)) }
     ensures none { result ≡ Err NotAdmissible → HasNone (R.Makes (R.job rule.now (S.trees store.old)) (tree (S.trees store.old) id)) }
     ensures grows { S.grows store.old store.new }
-    ensures cost { IsTrue S.unique → steps.new ≤ steps.old + distinct_count (subtrees (tree (S.trees store.old) id)) * (1 + R.looks (R.job rule.now (S.trees store.old))) }
+    ensures cost { IsTrue S.unique →
+        steps.new ≤ steps.old + distinct_count (subtrees (tree (S.trees store.old) id)) * (1 + R.looks (R.job rule.now (S.trees store.old))) }
     ensures unlooked { R.may_change (R.job rule.now (S.trees store.old)) (tree (S.trees store.old) id) ≡ false → steps.new ≡ steps.old }
 {
     let mut done = Results::new(alloc);

@@ -14,9 +14,9 @@ pub mod Places
 pub mod NewNodes
 pub mod NodeRead
 pub mod Tables
+pub mod IdTexts
 pub mod LongerTable
 pub mod DetailLaws
-pub mod Refusals
 pub mod CallLaws
 pub mod OpsCut
 pub mod ReadNode

@@ -1,8 +1,7 @@
 -- Ids that have a node, and their trees.
 use Rattle.std.proofs.Common.{◌≡◌, ℕ, suc, ◌+◌, ◌<◌, ◌≤◌, Bool, true, false, not, nat_lt, Some, None, ◌||◌, cond, List, [], ◌∷◌, ◌++◌, length, drop}
 use Rattle.std.proofs.Common.{refl, sym, ap, ◌∙◌, append_assoc, append-nil, arith, inl, inr}
-use Rattle.std.specs.Prelude.{All, position, if◌then◌else◌}
-use Rattle.std.specs.Fmt.{decimal}
+use Rattle.std.specs.Prelude.{All, position, unwrap_or, if◌then◌else◌}
 use Rattle.std.specs.List.{position_or_len}
 use Rattle.std.proofs.lemmas.List.Sums.{prefix_len-le-length}
 use Rattle.std.proofs.lemmas.Bool.{cases_Bool, cases_lt, lt-ltb, eqb-true, eq-eqb}
@@ -16,7 +15,7 @@ use Rattle.dlk_store.specs.declared.Id.{Id}
 use Rattle.dlk_store.specs.Stores.{IsId, tree, kid_trees, HasOneId}
 use Rattle.dlk_nodes.specs.Nodes.{has_node}
 use Rattle.dlk_nodes.specs.Tables.{nodes_at, id_eq, has}
-use Rattle.dlk_lines.specs.Written.{place_of, number_text}
+use Rattle.dlk_lines.specs.Written.{place_of}
 use Rattle.dlk_nodes.specs.Terms.{new_nodes, new_in_kids}
 use Rattle.dlk_nodes.proofs.Places.{in_neither}
 use Rattle.dlk_nodes.proofs.NewNodes.{absent_in_kids}
@@ -46,7 +45,7 @@ module _ (trees : List Tree) (one : HasOneId trees) where
       λ t. first t || rest t
 
   -- where its node stands
-  place_is : (ids : List Id) (id : Id) → All (IsId trees) ids → IsId trees id → position_or_len (id_eq id) ids ≡ place_of (nodes_at trees ids) (tree trees id)
+  pub place_is : (ids : List Id) (id : Id) → All (IsId trees) ids → IsId trees id → position_or_len (id_eq id) ids ≡ place_of (nodes_at trees ids) (tree trees id)
   place_is [] id all known = refl
   place_is (i ∷ ids) id all known =
       by_test (id_eq id i) (tree_eq (tree trees id) (tree trees i)) (same_test id i known (All-head (IsId trees) i ids all)) (place_is ids id
@@ -59,31 +58,20 @@ module _ (trees : List Tree) (one : HasOneId trees) where
       by_test false true e h = absurd (cc e)
       by_test false false e h = omega (arith, h)
 
-  pub place_found : (ids : List Id) (id : Id) (place : ℕ) → All (IsId trees) ids → IsId trees id → Some place ≡ position (id_eq id) ids →
-      decimal (place + 1) ≡ number_text (nodes_at trees ids) (tree trees id)
-  place_found ids id place all known e =
-      let there : position_or_len (id_eq id) ids ≡ place = by_test (nat_lt (position_or_len (id_eq id) ids) (length ids)) e in
-      let same : place + 1 ≡ suc (place_of (nodes_at trees ids) (tree trees id)) = omega (arith, there, place_is ids id all known) in
-      ap decimal same
-    where
-      by_test : (b : Bool) → Some place ≡ cond b (Some (position_or_len (id_eq id) ids)) None → position_or_len (id_eq id) ids ≡ place
-      by_test true e = cc
-      by_test false e = absurd (cc e)
+-- where the node stands, as looking the id up says
+pub place_or_len : (ids : List Id) (id : Id) → unwrap_or (position (id_eq id) ids) (length ids) ≡ position_or_len (id_eq id) ids
+place_or_len ids id = by_test (nat_lt (position_or_len (id_eq id) ids) (length ids)) past
+  where
+    past : nat_lt (position_or_len (id_eq id) ids) (length ids) ≡ false → length ids ≡ position_or_len (id_eq id) ids
+    past e = elim (cases_lt (position_or_len (id_eq id) ids) (length ids)) [
+      | inl less ↦ let clash : true ≡ false = sym (lt-ltb _ _ less) ∙ e in absurd (cc clash)
+      | inr le ↦ let within = prefix_len-le-length (λ x. not (id_eq id x)) ids in omega (arith, le, within)
+    ]
 
-  pub place_past : (ids : List Id) (id : Id) → All (IsId trees) ids → IsId trees id → None ≡ position (id_eq id) ids →
-      decimal (length ids + 1) ≡ number_text (nodes_at trees ids) (tree trees id)
-  place_past ids id all known e =
-      let past : length ids ≤ position_or_len (id_eq id) ids = elim (cases_lt (position_or_len (id_eq id) ids) (length ids)) [
-        | inl less ↦ by_test (nat_lt (position_or_len (id_eq id) ids) (length ids)) (lt-ltb _ _ less) e
-        | inr le ↦ le
-      ] in
-      let within = prefix_len-le-length (λ x. not (id_eq id x)) ids in
-      let same : length ids + 1 ≡ suc (place_of (nodes_at trees ids) (tree trees id)) = omega (arith, past, within, place_is ids id all known) in
-      ap decimal same
-    where
-      by_test : (b : Bool) → b ≡ true → None ≡ cond b (Some (position_or_len (id_eq id) ids)) None → length ids ≤ position_or_len (id_eq id) ids
-      by_test true t e = absurd (cc e)
-      by_test false t e = absurd (cc t)
+    by_test : (b : Bool) → (b ≡ false → length ids ≡ position_or_len (id_eq id) ids) →
+        unwrap_or (cond b (Some (position_or_len (id_eq id) ids)) None) (length ids) ≡ position_or_len (id_eq id) ids
+    by_test true e = refl
+    by_test false e = e refl
 
 -- the nodes of a tree that has one
 pub none_new : (nodes : List Tree) (t : Tree) → has_node nodes t ≡ true → nodes ≡ nodes ++ new_nodes nodes t

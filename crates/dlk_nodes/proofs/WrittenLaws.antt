@@ -7,14 +7,12 @@ use Rattle.std.proofs.lemmas.List.{drop_all}
 use Rattle.dlk_tree.specs.declared.op.OdeItem.{OdeItem}
 use Rattle.dlk_tree.specs.Trees.{Tree}
 use Rattle.dlk_store.specs.declared.Id.{Id}
-use Rattle.dlk_store.specs.Stores.{tree, kid_trees}
 use Rattle.dlk_print.proofs.Left.{Left, unbegun, same_rest}
 use Rattle.dlk_nodes.specs.Words.{with_taboo, item_text}
 use Rattle.dlk_sequent.specs.declared.subst.Pair.{Pair}
 use Rattle.dlk_sequent.specs.Substitutions.{pair_at, pairs_at}
-use Rattle.dlk_lines.specs.Written.{number_text, numbers_text, numbers_before, pair_text}
-use Rattle.dlk_nodes.specs.Tables.{nodes_at}
-use Rattle.dlk_nodes.specs.Written.{kids_text}
+use Rattle.dlk_lines.specs.Written.{pair_text}
+use Rattle.dlk_nodes.specs.Tables.{id_text}
 
 -- what comes behind a name
 abbrev pub behind_name : List ℕ → List ℕ → Option (List ℕ) → List ℕ
@@ -37,21 +35,28 @@ items_left items k d less left =
     ap later_items (drop-cons items k d less ∙ ap (λ n. get_or items k d ∷ drop n items) (sym (add-one k))) ∙ simp append_assoc in
     same_rest e left
 
--- ---- kids
+-- ---- any parts
 
-module _ (trees : List Tree) (nodes : List Tree) where
-  abbrev pub kids_behind : List Id → List ℕ
-  kids_behind ids = kids_text nodes (kid_trees trees ids)
+module _ {A : Type 0} (text_of : A → List ℕ) where
+  pub each_left : {old text now : List ℕ} (xs : List A) (k : ℕ) (d : A) → k < length xs → Left old text now (flat_map text_of (drop k xs)) →
+      Left old text now (text_of (get_or xs k d) ++ flat_map text_of (drop (k + 1) xs))
+  each_left xs k d less left =
+      same_rest (ap (flat_map text_of) (drop-cons xs k d less ∙ ap (λ n. get_or xs k d ∷ drop n xs) (sym (add-one k)))) left
 
-  pub kids_left : {old text now : List ℕ} (ids : List Id) (k : ℕ) (d : Id) → k < length ids → Left old text now (kids_behind (drop k ids)) →
-      Left old text now (codes " " ++ (number_text nodes (tree trees (get_or ids k d)) ++ kids_behind (drop (k + 1) ids)))
-  kids_left ids k d less left =
-      let e : kids_behind (drop k ids) ≡ codes " " ++ (number_text nodes (tree trees (get_or ids k d)) ++ kids_behind (drop (k + 1) ids)) =
-      ap kids_behind (drop-cons ids k d less ∙ ap (λ n. get_or ids k d ∷ drop n ids) (sym (add-one k))) ∙ simp append_assoc in
-      same_rest e left
+  pub none_left : {old text now : List ℕ} (xs : List A) (k : ℕ) → length xs ≤ k → Left old text now (flat_map text_of (drop k xs)) →
+      Left old text now []
+  none_left xs k le left = same_rest (ap (flat_map text_of) (drop_all k xs le)) left
 
-  pub no_kids_left : {old text now : List ℕ} (ids : List Id) (k : ℕ) → length ids ≤ k → Left old text now (kids_behind (drop k ids)) → Left old text now []
-  no_kids_left ids k le left = same_rest (ap kids_behind (drop_all k ids le)) left
+-- the numbers of nodes, each before a space
+module _ (table : List Id) where
+  abbrev pub numbers_left : List Id → List ℕ
+  numbers_left ids = flat_map (λ id. id_text table id ++ codes " ") ids
+
+  pub before_left : {old text now : List ℕ} (ids : List Id) (k : ℕ) (d : Id) → k < length ids → Left old text now (numbers_left (drop k ids)) →
+      Left old text now (id_text table (get_or ids k d) ++ (codes " " ++ numbers_left (drop (k + 1) ids)))
+  before_left ids k d less left =
+      same_rest (append_assoc (id_text table (get_or ids k d)) (codes " ") (numbers_left (drop (k + 1) ids)))
+      (each_left (λ id. id_text table id ++ codes " ") ids k d less left)
 
 -- ---- lines
 
@@ -62,34 +67,6 @@ line_left old number op kids = unbegun old (simp append_assoc)
 -- ---- the trees of a step
 
 module _ (trees : List Tree) (nodes : List Tree) where
-  pub numbers_left : {old text now : List ℕ} (ids : List Id) (k : ℕ) (d : Id) → k < length ids →
-      Left old text now (numbers_text nodes (nodes_at trees (drop k ids))) →
-      Left old text now (codes " " ++ (number_text nodes (tree trees (get_or ids k d)) ++ numbers_text nodes (nodes_at trees (drop (k + 1) ids))))
-  numbers_left ids k d less left =
-      let e : numbers_text nodes (nodes_at trees (drop k ids)) ≡ codes " " ++ (number_text nodes (tree trees (get_or ids k d)) ++ numbers_text nodes
-      (nodes_at trees (drop (k + 1) ids))) =
-      ap (λ l. numbers_text nodes (nodes_at trees l)) (drop-cons ids k d less ∙ ap (λ n. get_or ids k d ∷ drop n ids) (sym (add-one k)))
-      ∙ simp append_assoc in
-      same_rest e left
-
-  pub no_numbers_left : {old text now : List ℕ} (ids : List Id) (k : ℕ) → length ids ≤ k →
-      Left old text now (numbers_text nodes (nodes_at trees (drop k ids))) → Left old text now []
-  no_numbers_left ids k le left = same_rest (ap (λ l. numbers_text nodes (nodes_at trees l)) (drop_all k ids le)) left
-
-  pub before_left : {old text now : List ℕ} (ids : List Id) (k : ℕ) (d : Id) → k < length ids →
-      Left old text now (numbers_before nodes (nodes_at trees (drop k ids))) →
-      Left old text now (number_text nodes (tree trees (get_or ids k d)) ++ (codes " " ++ numbers_before nodes (nodes_at trees (drop (k + 1) ids))))
-  before_left ids k d less left =
-      let e : numbers_before nodes (nodes_at trees (drop k ids)) ≡ number_text nodes (tree trees (get_or ids k d)) ++ (codes " " ++ numbers_before nodes
-      (nodes_at trees (drop (k + 1) ids))) =
-      ap (λ l. numbers_before nodes (nodes_at trees l)) (drop-cons ids k d less ∙ ap (λ n. get_or ids k d ∷ drop n ids) (sym (add-one k)))
-      ∙ simp append_assoc in
-      same_rest e left
-
-  pub none_before_left : {old text now : List ℕ} (ids : List Id) (k : ℕ) → length ids ≤ k →
-      Left old text now (numbers_before nodes (nodes_at trees (drop k ids))) → Left old text now []
-  none_before_left ids k le left = same_rest (ap (λ l. numbers_before nodes (nodes_at trees l)) (drop_all k ids le)) left
-
   abbrev pub later_pairs : List Pair → List ℕ
   later_pairs pairs = flat_map (λ p. codes "," ++ pair_text nodes p) (pairs_at trees pairs)
 

@@ -3,7 +3,6 @@ pub mod Fields
 pub mod Words
 pub mod Nodes
 pub mod Details
-pub mod Faults
 pub mod Written
 pub mod Follow
 pub mod Terms

@@ -3,10 +3,6 @@ use Rattle.std.specs.Prelude.{List}
 use Rattle.dlk_tree.specs.Trees.{Tree}
 use Rattle.dlk_store.specs.Stores.{IsId, tree}
 use Rattle.dlk_rules.specs.Steps.{step_at, HasKnownIds}
-use Rattle.dlk_lines.specs.declared.fault.LineFault.{LineFault}
-use Rattle.dlk_lines.specs.declared.fault.LineFault.TheVariants as line_fault
-use Rattle.dlk_nodes.specs.declared.fault.NodeFault.{NodeFault}
-use Rattle.dlk_nodes.specs.declared.fault.NodeFault.TheVariants as fault
 use Rattle.dlk_nodes.specs.declared.line.Line2.{Line2}
 use Rattle.dlk_nodes.specs.declared.line.Line2.TheVariants as line
 use Rattle.dlk_nodes.specs.Lines.{Line, OfNode, Numbered, Done}
@@ -22,13 +18,3 @@ abbrev pub LineIsKnown : List Tree → Line2 → Type 0
 LineIsKnown trees (line.Node number id) = IsId trees id
 LineIsKnown trees (line.Step number step) = HasKnownIds trees step
 LineIsKnown trees line.Done = Unit {0}
-
--- a text that is no step's line makes its line Malformed
-abbrev pub of_line : LineFault → NodeFault
-of_line line_fault.Malformed = fault.Malformed
-of_line line_fault.Memory = fault.Memory
-
--- and the other way round
-abbrev pub of_node : NodeFault → LineFault
-of_node fault.Malformed = line_fault.Malformed
-of_node fault.Memory = line_fault.Memory

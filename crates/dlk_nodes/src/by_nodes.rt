@@ -1,8 +1,4 @@
 //! The trees of a step by the numbers of their nodes.
-ghost use Rattle.std.specs.Prelude.{◌≡◌};
-ghost use Rattle.dlk_nodes.specs.Read.{of_node};
-
-use crate::fault::NodeFault;
 use crate::pairs::read_pairs;
 use crate::sequents::{read_formula, read_sequent};
 use crate::table::NodeTable;
@@ -11,16 +7,6 @@ use dlk_sequent::{Listed, Pair, Sequent};
 use dlk_store::{Id, Steps, Store};
 use std::alloc::Global;
 use std::sync::ledger::Ledger;
-
-/// What a node's fault makes of its line.
-fn line_fault(fault: NodeFault) -> LineFault
-    ensures { result ≡ of_node fault }
-{
-    match fault {
-        NodeFault::Malformed => LineFault::Malformed,
-        NodeFault::Memory => LineFault::Memory,
-    }
-}
 
 /// Reads the numbers of nodes. The sort of each node that is named takes a look.
 #[derive(Drop)]
@@ -45,10 +31,7 @@ impl<'a, L: Ledger> Spelled for NodesRead<'a, L> {
         text: &[u8],
         store: &mut S,
     ) -> Result<Sequent, LineFault> {
-        match read_sequent(alloc, text, self.table, store, self.steps) {
-            Ok(sequent) => Ok(sequent),
-            Err(why) => Err(line_fault(why)),
-        }
+        read_sequent(alloc, text, self.table, store, self.steps)
     }
 
     fn pairs<S: Store>(
@@ -57,10 +40,8 @@ impl<'a, L: Ledger> Spelled for NodesRead<'a, L> {
         text: &[u8],
         store: &mut S,
     ) -> Result<Listed<Pair>, LineFault> {
-        match read_pairs(alloc, text, self.table, store, self.steps) {
-            Ok(pairs) => Ok(Listed::from_vec(pairs)),
-            Err(why) => Err(line_fault(why)),
-        }
+        let pairs = read_pairs(alloc, text, self.table, store, self.steps)?;
+        Ok(Listed::from_vec(pairs))
     }
 
     fn formula<S: Store>(
@@ -69,9 +50,6 @@ impl<'a, L: Ledger> Spelled for NodesRead<'a, L> {
         text: &[u8],
         store: &mut S,
     ) -> Result<Id, LineFault> {
-        match read_formula(text, self.table, store, self.steps) {
-            Ok(id) => Ok(id),
-            Err(why) => Err(line_fault(why)),
-        }
+        read_formula(text, self.table, store, self.steps)
     }
 }

@@ -5,7 +5,6 @@ mod adding;
 mod by_nodes;
 mod calls;
 mod details;
-mod fault;
 pub mod file_laws;
 mod items;
 pub mod laws;
@@ -25,7 +24,8 @@ mod words;
 mod writing;
 
 pub use adding::add_new;
-pub use fault::NodeFault;
+/// The fault of a node's line is that of a step's.
+pub use dlk_lines::LineFault as NodeFault;
 pub use line::Line2;
 pub use reading::read_node_line;
 pub use table::NodeTable;

@@ -4,10 +4,9 @@ ghost use Rattle.std.specs.List.{list_all};
 ghost use Rattle.dlk_tree.specs.declared.op.Num.{Num as TreeNum};
 ghost use Rattle.dlk_grammar.specs.Tokens.{is_digit, trimmed, literal_number};
 ghost use Rattle.dlk_nodes.specs.Details.{SpellsNumber, AreFewDigits};
-ghost use Rattle.dlk_nodes.specs.Faults.{IsNodeFaultOf};
+ghost use Rattle.dlk_lines.specs.Read.{IsLineFaultOf};
 
-use crate::fault::NodeFault;
-use dlk_lines::cut_at;
+use dlk_lines::{LineFault, cut_at};
 use dlk_print::append_number;
 use dlk_tree::{Num, Op, fits};
 use std::alloc::Global;
@@ -70,17 +69,17 @@ fn candidate(text: &[u8]) -> Option<Num>
 }
 
 /// The number that the text spells: the digits are written again, so that no other spelling is taken.
-pub(crate) fn literal(alloc: Global, text: &[u8]) -> Result<Num, NodeFault>
+pub(crate) fn literal(alloc: Global, text: &[u8]) -> Result<Num, LineFault>
     ensures found { IfOk result (SpellsNumber text.now) }
-    ensures fault { IfErr result (IsNodeFaultOf ((n : TreeNum) → ¬ SpellsNumber text.now n)) }
+    ensures fault { IfErr result (IsLineFaultOf ((n : TreeNum) → ¬ SpellsNumber text.now n)) }
 {
     let Some(number) = candidate(text) else {
-        return Err(NodeFault::Malformed);
+        return Err(LineFault::Malformed);
     };
     let mut written = Vec::new(alloc);
     append_number(&mut written, &number)?;
     if written.as_slice() != text || !fits(&Op::Number(number), &[]) {
-        return Err(NodeFault::Malformed);
+        return Err(LineFault::Malformed);
     }
     Ok(number)
 }

@@ -5,15 +5,14 @@ ghost use Rattle.dlk_calculus.specs.Limits.{IsSmall, IsShallow};
 ghost use Rattle.dlk_store.specs.Stores.{IsId, tree, sorts_at};
 ghost use Rattle.dlk_nodes.specs.Nodes.{IsNode, IsNodeLine};
 ghost use Rattle.dlk_nodes.specs.Tables.{nodes_at};
-ghost use Rattle.dlk_nodes.specs.declared.fault.NodeFault.TheVariants.{Memory};
-ghost use Rattle.dlk_nodes.specs.Faults.{IsNodeFaultOf};
+ghost use Rattle.dlk_lines.specs.declared.fault.LineFault.TheVariants.{Memory};
+ghost use Rattle.dlk_lines.specs.Read.{IsLineFaultOf};
 ghost use Rattle.dlk_nodes.specs.Wants.{NodeLineWants};
 
 use crate::calls::op_and_kids;
-use crate::fault::NodeFault;
 use crate::table::NodeTable;
 use dlk_calculus::{GREATEST_DEPTH, MOST_NODES};
-use dlk_lines::number_before;
+use dlk_lines::{LineFault, number_before};
 use dlk_store::{Id, Steps, Store};
 use dlk_tree::{Sort, fits, sort_of};
 use std::alloc::{AllocError, Global};
@@ -54,25 +53,25 @@ pub(crate) fn read_node<S: Store, L: Ledger>(
     table: &NodeTable,
     store: &mut S,
     steps: &mut Steps<L>,
-) -> Result<Id, NodeFault>
+) -> Result<Id, LineFault>
     requires unique { IsTrue S.unique }
     requires known { All (IsId (S.trees store.old)) table.now }
     ensures found { IfOk result (λ id. IsNode (nodes_at (S.trees store.old) table.now) text.now (tree (S.trees store.new) id)) }
     ensures known { IfOk result (IsId (S.trees store.new)) }
-    ensures fault { IfErr result (IsNodeFaultOf ((t : Tree) → ¬ IsNode (nodes_at (S.trees store.old) table.now) text.now t)) }
+    ensures fault { IfErr result (IsLineFaultOf ((t : Tree) → ¬ IsNode (nodes_at (S.trees store.old) table.now) text.now t)) }
     ensures grows { S.grows store.old store.new }
 {
     let (op, kids) = op_and_kids(alloc, text, table)?;
     let sorts = sorts_of(alloc, kids.as_slice(), store, steps)?;
     if !fits(&op, sorts.as_slice()) {
-        return Err(NodeFault::Malformed);
+        return Err(LineFault::Malformed);
     }
     let id = store.make(alloc, op, kids.as_slice())?;
     if table.place(id).is_some() {
-        return Err(NodeFault::Malformed);
+        return Err(LineFault::Malformed);
     }
     if !is_within_limits(store, id) {
-        return Err(NodeFault::Malformed);
+        return Err(LineFault::Malformed);
     }
     Ok(id)
 }
@@ -84,17 +83,17 @@ pub(crate) fn node_line<S: Store, L: Ledger>(
     table: &NodeTable,
     store: &mut S,
     steps: &mut Steps<L>,
-) -> Result<(u32, Id), NodeFault>
+) -> Result<(u32, Id), LineFault>
     requires unique { IsTrue S.unique }
     requires known { All (IsId (S.trees store.old)) table.now }
     ensures found { IfOk result (λ p. IsNodeLine (nodes_at (S.trees store.old) table.now) (codes "node " ++ text.now) p.0 (tree (S.trees store.new) p.1)) }
     ensures known { IfOk result (λ p. IsId (S.trees store.new) p.1) }
-    ensures fault { IfErr result (IsNodeFaultOf ((n : ℕ) (t : Tree) → ¬ IsNodeLine (nodes_at (S.trees store.old) table.now) (codes "node " ++ text.now) n t)) }
+    ensures fault { IfErr result (IsLineFaultOf ((n : ℕ) (t : Tree) → ¬ IsNodeLine (nodes_at (S.trees store.old) table.now) (codes "node " ++ text.now) n t)) }
     ensures memory { result ≡ Err Memory → NodeLineWants (codes "node " ++ text.now) }
     ensures grows { S.grows store.old store.new }
 {
     let Some((number, node)) = number_before(text, b' ') else {
-        return Err(NodeFault::Malformed);
+        return Err(LineFault::Malformed);
     };
     let id = read_node(alloc, node, table, store, steps)?;
     Ok((number, id))

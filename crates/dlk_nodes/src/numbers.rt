@@ -3,11 +3,10 @@ ghost use Rattle.std.specs.Prelude.{◌≡◌, ◌==◌, IfOk, IfErr, MatchOptio
 ghost use Rattle.dlk_store.specs.declared.Id.{Id as TreeId};
 ghost use Rattle.dlk_lines.specs.Spelled.{Names, NamesEach};
 ghost use Rattle.dlk_nodes.specs.Fields.{parts_of, Each};
-ghost use Rattle.dlk_nodes.specs.Faults.{IsNodeFaultOf};
+ghost use Rattle.dlk_lines.specs.Read.{IsLineFaultOf};
 
-use crate::fault::NodeFault;
 use crate::table::NodeTable;
-use dlk_lines::{number, number_before};
+use dlk_lines::{LineFault, number, number_before};
 use dlk_store::Id;
 use std::alloc::Global;
 
@@ -20,21 +19,21 @@ pub(crate) fn node_numbered(text: &[u8], table: &NodeTable) -> Option<Id>
 }
 
 /// The nodes that the fields of a text are the numbers of.
-fn nodes_numbered(alloc: Global, text: &[u8], table: &NodeTable) -> Result<Vec<Id>, NodeFault>
+fn nodes_numbered(alloc: Global, text: &[u8], table: &NodeTable) -> Result<Vec<Id>, LineFault>
     ensures found { IfOk result (λ ids. Each (Names table.now) (parts_of 32 text.now) ids.items) }
-    ensures fault { IfErr result (IsNodeFaultOf ((ids : List TreeId) → ¬ Each (Names table.now) (parts_of 32 text.now) ids)) }
+    ensures fault { IfErr result (IsLineFaultOf ((ids : List TreeId) → ¬ Each (Names table.now) (parts_of 32 text.now) ids)) }
 {
     let mut ids = Vec::new(alloc);
     let mut left = text;
     while let Some((number, behind)) = number_before(left, b' ') {
         let Some(id) = table.node(number) else {
-            return Err(NodeFault::Malformed);
+            return Err(LineFault::Malformed);
         };
         ids.push(id)?;
         left = behind;
     }
     let Some(id) = node_numbered(left, table) else {
-        return Err(NodeFault::Malformed);
+        return Err(LineFault::Malformed);
     };
     ids.push(id)?;
     Ok(ids)
@@ -45,15 +44,15 @@ pub(crate) fn nodes_behind(
     alloc: Global,
     text: &[u8],
     table: &NodeTable,
-) -> Result<Vec<Id>, NodeFault>
+) -> Result<Vec<Id>, LineFault>
     ensures found { IfOk result (λ ids. NamesEach table.now text.now ids.items) }
-    ensures fault { IfErr result (IsNodeFaultOf ((ids : List TreeId) → ¬ NamesEach table.now text.now ids)) }
+    ensures fault { IfErr result (IsLineFaultOf ((ids : List TreeId) → ¬ NamesEach table.now text.now ids)) }
 {
     let Some((space, fields)) = text.split_first() else {
         return Ok(Vec::new(alloc));
     };
     if !is_space(*space) {
-        return Err(NodeFault::Malformed);
+        return Err(LineFault::Malformed);
     }
     let ids = nodes_numbered(alloc, fields, table)?;
     Ok(ids)

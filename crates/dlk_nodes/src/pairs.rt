@@ -6,16 +6,15 @@ ghost use Rattle.dlk_calculus.specs.Pairs.{Pair as TreePair, is_true, is_of_kind
 ghost use Rattle.dlk_store.specs.Stores.{IsId, kid_trees};
 ghost use Rattle.dlk_sequent.specs.Substitutions.{pair_at, pairs_at, AreKnownPairs};
 ghost use Rattle.dlk_lines.specs.Spelled.{NamesPairs};
-ghost use Rattle.dlk_nodes.specs.Faults.{IsNodeFaultOf};
+ghost use Rattle.dlk_lines.specs.Read.{IsLineFaultOf};
 ghost use Rattle.dlk_nodes.specs.FirstPair.{UpToComma, FirstPair};
 ghost use Rattle.dlk_nodes.specs.Tables.{nodes_at};
 
-use crate::fault::NodeFault;
 use crate::numbers::node_numbered;
 use crate::parts::behind;
 use crate::symbols::symbol_for;
 use crate::table::NodeTable;
-use dlk_lines::cut_at;
+use dlk_lines::{LineFault, cut_at};
 use dlk_sequent::Pair;
 use dlk_store::{Id, Node, Steps, Store};
 use dlk_tree::{Kind, Op, kind_row, sort_of};
@@ -71,26 +70,27 @@ fn first_pair<'a, S: Store, L: Ledger>(
     table: &NodeTable,
     store: &S,
     steps: &mut Steps<L>,
-) -> Result<(Pair, Option<&'a [u8]>), NodeFault>
+) -> Result<(Pair, Option<&'a [u8]>), LineFault>
     requires { All (IsId (S.trees store.now)) table.now }
     ensures found { IfOk result (λ p. FirstPair (nodes_at (S.trees store.now) table.now) text.now (pair_at (S.trees store.now) p.0) (option_copied p.1)) }
     ensures known { IfOk result (λ p. IsId (S.trees store.now) p.0.by) }
-    ensures fault { IfErr result (IsNodeFaultOf ((p : TreePair) (rest : Option (List ℕ)) → ¬ FirstPair (nodes_at (S.trees store.now) table.now) text.now p rest)) }
+    ensures fault { IfErr result (IsLineFaultOf ((p : TreePair) (rest : Option (List ℕ)) →
+        ¬ FirstPair (nodes_at (S.trees store.now) table.now) text.now p rest)) }
 {
     let Some((left, right)) = cut_at(text, b'~') else {
-        return Err(NodeFault::Malformed);
+        return Err(LineFault::Malformed);
     };
     let Some(right) = behind(right, b">") else {
-        return Err(NodeFault::Malformed);
+        return Err(LineFault::Malformed);
     };
     let (digits, rest) = up_to_comma(right);
     let Some(by) = node_numbered(digits, table) else {
-        return Err(NodeFault::Malformed);
+        return Err(LineFault::Malformed);
     };
     let root = store.look(by, steps);
     let sym = symbol_for(alloc, sort_of(root.op), left)?;
     if !suits(sym.kind, root, store, steps) {
-        return Err(NodeFault::Malformed);
+        return Err(LineFault::Malformed);
     }
     Ok((Pair { sym, by }, rest))
 }
@@ -102,11 +102,11 @@ pub(crate) fn read_pairs<S: Store, L: Ledger>(
     table: &NodeTable,
     store: &S,
     steps: &mut Steps<L>,
-) -> Result<Vec<Pair>, NodeFault>
+) -> Result<Vec<Pair>, LineFault>
     requires { All (IsId (S.trees store.now)) table.now }
     ensures found { IfOk result (λ pairs. NamesPairs (nodes_at (S.trees store.now) table.now) text.now (pairs_at (S.trees store.now) pairs.items)) }
     ensures known { IfOk result (λ pairs. AreKnownPairs (S.trees store.now) pairs.items) }
-    ensures fault { IfErr result (IsNodeFaultOf ((pairs : List TreePair) → ¬ NamesPairs (nodes_at (S.trees store.now) table.now) text.now pairs)) }
+    ensures fault { IfErr result (IsLineFaultOf ((pairs : List TreePair) → ¬ NamesPairs (nodes_at (S.trees store.now) table.now) text.now pairs)) }
 {
     let mut pairs = Vec::new(alloc);
     let mut left = unless_empty(text);

@@ -1,13 +1,8 @@
 //! Parts of a text.
-ghost use Rattle.std.specs.Prelude.{◌≡◌, ◌≢◌, ◌==◌, ◌++◌, ℕ, List, position, IfSome, IfNone};
+ghost use Rattle.std.specs.Prelude.{◌≡◌, ◌≢◌, ◌++◌, ℕ, List, IfSome, IfNone};
 ghost use Rattle.dlk_nodes.specs.Parts.{Front};
 
-/// The index of the first byte of this kind.
-fn place_of(text: &[u8], byte: u8) -> Option<usize>
-    ensures { result ≡ position (λ b. b == byte) text.now }
-{
-    text.iter().position(|b| *b == byte)
-}
+use dlk_lines::place_of;
 
 /// The text before the first space, or all of it where there is none, and what is left, which begins with that space.
 pub(crate) fn front_of(text: &[u8]) -> (&[u8], &[u8])

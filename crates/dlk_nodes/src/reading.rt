@@ -1,20 +1,19 @@
 //! Lines of a file of version 2, read.
 ghost use Rattle.std.specs.Prelude.{◌≡◌, ◌++◌, ℕ, List, All, Err, IsTrue, IfOk, IfErr, codes};
 ghost use Rattle.dlk_store.specs.Stores.{IsId};
-ghost use Rattle.dlk_nodes.specs.declared.fault.NodeFault.TheVariants.{Memory};
-ghost use Rattle.dlk_nodes.specs.Faults.{IsNodeFaultOf};
+ghost use Rattle.dlk_lines.specs.declared.fault.LineFault.TheVariants.{Memory};
+ghost use Rattle.dlk_lines.specs.Read.{IsLineFaultOf};
 ghost use Rattle.dlk_nodes.specs.Lines.{Line as TreeLine, IsLine};
 ghost use Rattle.dlk_nodes.specs.Read.{line_at, LineIsKnown};
 ghost use Rattle.dlk_nodes.specs.Tables.{nodes_at};
 ghost use Rattle.dlk_nodes.specs.Wants.{NodeLineWants};
 
 use crate::by_nodes::NodesRead;
-use crate::fault::NodeFault;
 use crate::line::Line2;
 use crate::node::node_line;
 use crate::parts::behind;
 use crate::table::NodeTable;
-use dlk_lines::read_step_line;
+use dlk_lines::{LineFault, read_step_line};
 use dlk_store::{Steps, Store};
 use std::alloc::Global;
 use std::sync::ledger::Ledger;
@@ -32,12 +31,12 @@ pub fn read_node_line<S: Store, L: Ledger>(
     table: &NodeTable,
     store: &mut S,
     steps: &mut Steps<L>,
-) -> Result<Line2, NodeFault>
+) -> Result<Line2, LineFault>
     requires unique { IsTrue S.unique }
     requires known { All (IsId (S.trees store.old)) table.now }
     ensures found { IfOk result (λ l. IsLine (nodes_at (S.trees store.old) table.now) line.now (line_at (S.trees store.new) l)) }
     ensures known { IfOk result (LineIsKnown (S.trees store.new)) }
-    ensures fault { IfErr result (IsNodeFaultOf ((l : TreeLine) → ¬ IsLine (nodes_at (S.trees store.old) table.now) line.now l)) }
+    ensures fault { IfErr result (IsLineFaultOf ((l : TreeLine) → ¬ IsLine (nodes_at (S.trees store.old) table.now) line.now l)) }
     ensures memory { result ≡ Err Memory → (text : List ℕ) → line.now ≡ codes "node " ++ text → NodeLineWants line.now }
     ensures grows { S.grows store.old store.new }
 {

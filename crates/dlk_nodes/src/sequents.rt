@@ -7,16 +7,15 @@ ghost use Rattle.dlk_store.specs.declared.Id.{Id as TreeId};
 ghost use Rattle.dlk_store.specs.Stores.{IsId, tree};
 ghost use Rattle.dlk_sequent.specs.Sequents.{sequent_at, IsKnown};
 ghost use Rattle.dlk_lines.specs.Spelled.{NamesSequent, NamesFormula};
-ghost use Rattle.dlk_nodes.specs.declared.fault.NodeFault.TheVariants.{Memory};
-ghost use Rattle.dlk_nodes.specs.Faults.{IsNodeFaultOf};
+ghost use Rattle.dlk_lines.specs.declared.fault.LineFault.TheVariants.{Memory};
+ghost use Rattle.dlk_lines.specs.Read.{IsLineFaultOf};
 ghost use Rattle.dlk_nodes.specs.Sides.{Sides};
 ghost use Rattle.dlk_nodes.specs.Tables.{nodes_at};
 
-use crate::fault::NodeFault;
 use crate::numbers::{node_numbered, nodes_behind};
 use crate::parts::behind;
 use crate::table::NodeTable;
-use dlk_lines::cut_at;
+use dlk_lines::{LineFault, cut_at};
 use dlk_sequent::{Listed, Sequent};
 use dlk_store::{Id, Steps, Store};
 use dlk_tree::{Sort, sort_of};
@@ -24,9 +23,9 @@ use std::alloc::Global;
 use std::sync::ledger::Ledger;
 
 /// The nodes on both sides of a sequent: numbers each before a space, the arrow, and numbers each behind a space.
-fn sides(alloc: Global, text: &[u8], table: &NodeTable) -> Result<(Vec<Id>, Vec<Id>), NodeFault>
+fn sides(alloc: Global, text: &[u8], table: &NodeTable) -> Result<(Vec<Id>, Vec<Id>), LineFault>
     ensures found { IfOk result (λ p. Sides table.now text.now p.0.items p.1.items) }
-    ensures fault { IfErr result (IsNodeFaultOf ((xs ys : List TreeId) → ¬ Sides table.now text.now xs ys)) }
+    ensures fault { IfErr result (IsLineFaultOf ((xs ys : List TreeId) → ¬ Sides table.now text.now xs ys)) }
 {
     let mut ante = Vec::new(alloc);
     let mut left = text;
@@ -36,10 +35,10 @@ fn sides(alloc: Global, text: &[u8], table: &NodeTable) -> Result<(Vec<Id>, Vec<
             return Ok((ante, succ));
         }
         let Some((digits, more)) = cut_at(left, b' ') else {
-            return Err(NodeFault::Malformed);
+            return Err(LineFault::Malformed);
         };
         let Some(id) = node_numbered(digits, table) else {
-            return Err(NodeFault::Malformed);
+            return Err(LineFault::Malformed);
         };
         ante.push(id)?;
         left = more;
@@ -76,18 +75,18 @@ pub(crate) fn read_sequent<S: Store, L: Ledger>(
     table: &NodeTable,
     store: &S,
     steps: &mut Steps<L>,
-) -> Result<Sequent, NodeFault>
+) -> Result<Sequent, LineFault>
     requires { All (IsId (S.trees store.now)) table.now }
     ensures found { IfOk result (λ s. NamesSequent (nodes_at (S.trees store.now) table.now) text.now (sequent_at (S.trees store.now) s)) }
     ensures known { IfOk result (IsKnown (S.trees store.now)) }
-    ensures fault { IfErr result (IsNodeFaultOf ((s : TreeSequent) → ¬ NamesSequent (nodes_at (S.trees store.now) table.now) text.now s)) }
+    ensures fault { IfErr result (IsLineFaultOf ((s : TreeSequent) → ¬ NamesSequent (nodes_at (S.trees store.now) table.now) text.now s)) }
 {
     let (ante, succ) = sides(alloc, text, table)?;
     if !are_formulas(ante.as_slice(), store, steps) {
-        return Err(NodeFault::Malformed);
+        return Err(LineFault::Malformed);
     }
     if !are_formulas(succ.as_slice(), store, steps) {
-        return Err(NodeFault::Malformed);
+        return Err(LineFault::Malformed);
     }
     Ok(Sequent {
         ante: Listed::from_vec(ante),
@@ -101,21 +100,21 @@ pub(crate) fn read_formula<S: Store, L: Ledger>(
     table: &NodeTable,
     store: &S,
     steps: &mut Steps<L>,
-) -> Result<Id, NodeFault>
+) -> Result<Id, LineFault>
     requires { All (IsId (S.trees store.now)) table.now }
     ensures found { IfOk result (λ h. NamesFormula (nodes_at (S.trees store.now) table.now) text.now (tree (S.trees store.now) h)) }
     ensures known { IfOk result (IsId (S.trees store.now)) }
-    ensures fault { IfErr result (IsNodeFaultOf ((h : Tree) → ¬ NamesFormula (nodes_at (S.trees store.now) table.now) text.now h)) }
+    ensures fault { IfErr result (IsLineFaultOf ((h : Tree) → ¬ NamesFormula (nodes_at (S.trees store.now) table.now) text.now h)) }
     ensures decides { IfErr result (λ why. why ≢ Memory) }
 {
     let Some(digits) = behind(text, b"#") else {
-        return Err(NodeFault::Malformed);
+        return Err(LineFault::Malformed);
     };
     let Some(id) = node_numbered(digits, table) else {
-        return Err(NodeFault::Malformed);
+        return Err(LineFault::Malformed);
     };
     if !is_formula(id, store, steps) {
-        return Err(NodeFault::Malformed);
+        return Err(LineFault::Malformed);
     }
     Ok(id)
 }

@@ -1,73 +1,37 @@
 //! The trees of a step, written by the numbers of their nodes.
-ghost use Rattle.std.specs.Prelude.{All, IsTrue};
-ghost use Rattle.dlk_store.specs.Stores.{IsId};
-ghost use Rattle.dlk_sequent.specs.Substitutions.{pair_at};
+ghost use Rattle.std.specs.Prelude.{◌++◌, codes};
+ghost use Rattle.std.specs.List.{flat_map};
+ghost use Rattle.dlk_grammar.specs.Shown.{spell};
+ghost use Rattle.dlk_grammar.specs.Symbols.{shown_symbol};
 ghost use Rattle.dlk_print.specs.Printed.{Appends};
-ghost use Rattle.dlk_lines.specs.Spelled.{ByNodes};
-ghost use Rattle.dlk_lines.specs.Written.{numbers_text, numbers_before, pair_text};
-ghost use Rattle.dlk_nodes.specs.Tables.{nodes_at};
+ghost use Rattle.dlk_nodes.specs.Tables.{id_text};
 
 use crate::table::NodeTable;
-use crate::writing::append_place;
+use crate::writing::{append_behind, append_place};
 use dlk_lines::Spells;
 use dlk_print::{PrintFault, append, symbol_text};
 use dlk_sequent::{Pair, Sequent};
 use dlk_store::{Id, Steps, Store};
 use std::sync::ledger::Ledger;
 
-/// Appends the numbers of nodes, each behind a space.
-fn append_behind<S: Store>(
-    store: &S,
-    table: &NodeTable,
-    ids: &[Id],
-    out: &mut Vec<u8>,
-) -> Result<(), PrintFault>
-    requires unique { IsTrue S.unique }
-    requires nodes { All (IsId (S.trees store.now)) table.now }
-    requires ids { All (IsId (S.trees store.now)) ids.now }
-    ensures { Appends out.old.items out.new.items (numbers_text (nodes_at (S.trees store.now) table.now) (nodes_at (S.trees store.now) ids.now)) result }
-{
-    for id in ids {
-        append(out, b" ")?;
-        append_place(store, table, *id, out)?;
-    }
-    Ok(())
-}
-
 /// Appends the numbers of nodes, each before a space.
-fn append_before<S: Store>(
-    store: &S,
-    table: &NodeTable,
-    ids: &[Id],
-    out: &mut Vec<u8>,
-) -> Result<(), PrintFault>
-    requires unique { IsTrue S.unique }
-    requires nodes { All (IsId (S.trees store.now)) table.now }
-    requires ids { All (IsId (S.trees store.now)) ids.now }
-    ensures { Appends out.old.items out.new.items (numbers_before (nodes_at (S.trees store.now) table.now) (nodes_at (S.trees store.now) ids.now)) result }
+fn append_before(table: &NodeTable, ids: &[Id], out: &mut Vec<u8>) -> Result<(), PrintFault>
+    ensures { Appends out.old.items out.new.items (flat_map (λ id. id_text table.now id ++ codes " ") ids.now) result }
 {
     for id in ids {
-        append_place(store, table, *id, out)?;
+        append_place(table, *id, out)?;
         append(out, b" ")?;
     }
     Ok(())
 }
 
 /// Appends a pair: its symbol, the sign, and the number of the node that replaces it.
-fn append_pair<S: Store>(
-    store: &S,
-    table: &NodeTable,
-    pair: &Pair,
-    out: &mut Vec<u8>,
-) -> Result<(), PrintFault>
-    requires unique { IsTrue S.unique }
-    requires nodes { All (IsId (S.trees store.now)) table.now }
-    requires by { IsId (S.trees store.now) pair.now.by }
-    ensures { Appends out.old.items out.new.items (pair_text (nodes_at (S.trees store.now) table.now) (pair_at (S.trees store.now) pair.now)) result }
+fn append_pair(table: &NodeTable, pair: &Pair, out: &mut Vec<u8>) -> Result<(), PrintFault>
+    ensures { Appends out.old.items out.new.items (spell (shown_symbol pair.now.sym) ++ codes "~>" ++ id_text table.now pair.now.by) result }
 {
     symbol_text(&pair.sym, out)?;
     append(out, b"~>")?;
-    append_place(store, table, pair.by, out)
+    append_place(table, pair.by, out)
 }
 
 /// Writes the trees of a store by the numbers of their nodes.
@@ -95,9 +59,9 @@ impl<'a, S: Store> Spells for NodesOf<'a, S> {
         out: &mut Vec<u8>,
         _steps: &mut Steps<L>,
     ) -> Result<(), PrintFault> {
-        append_before(self.store, self.table, s.ante.as_slice(), out)?;
+        append_before(self.table, s.ante.as_slice(), out)?;
         append(out, b"==>")?;
-        append_behind(self.store, self.table, s.succ.as_slice(), out)
+        append_behind(self.table, s.succ.as_slice(), out)
     }
 
     fn pairs<L: Ledger>(
@@ -109,10 +73,10 @@ impl<'a, S: Store> Spells for NodesOf<'a, S> {
         let Some((first, rest)) = pairs.split_first() else {
             return Ok(());
         };
-        append_pair(self.store, self.table, first, out)?;
+        append_pair(self.table, first, out)?;
         for pair in rest {
             append(out, b",")?;
-            append_pair(self.store, self.table, pair, out)?;
+            append_pair(self.table, pair, out)?;
         }
         Ok(())
     }
@@ -124,6 +88,6 @@ impl<'a, S: Store> Spells for NodesOf<'a, S> {
         _steps: &mut Steps<L>,
     ) -> Result<(), PrintFault> {
         append(out, b"#")?;
-        append_place(self.store, self.table, h, out)
+        append_place(self.table, h, out)
     }
 }

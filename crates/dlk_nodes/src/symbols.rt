@@ -2,14 +2,13 @@
 ghost use Rattle.std.specs.Prelude.{◌≡◌, ℕ, List, Option, IfSome, IfNone, IfOk, IfErr};
 ghost use Rattle.dlk_tree.specs.declared.op.Kind.TheVariants.{Func, UnitFunc, Pred, UnitPred};
 ghost use Rattle.dlk_tree.specs.declared.op.Sym.{Sym as TreeSym};
-ghost use Rattle.dlk_nodes.specs.Faults.{IsNodeFaultOf};
+ghost use Rattle.dlk_lines.specs.Read.{IsLineFaultOf};
 ghost use Rattle.dlk_nodes.specs.Symbols.{dots_bytes, AreDots, SpellsTaboo, SpellsOfSort, ArePaired, SpellsCalled};
 
 use crate::details::{name, symbol};
-use crate::fault::NodeFault;
 use crate::items::constant;
 use crate::parts::{before, behind};
-use dlk_lines::cut_at;
+use dlk_lines::{LineFault, cut_at};
 use dlk_tree::{Kind, Name, Sort, Sym};
 use std::alloc::Global;
 
@@ -44,9 +43,9 @@ fn arity(text: &[u8]) -> Option<u8>
 }
 
 /// The taboo between the bars of a unit symbol: nothing stands there where it has none.
-fn taboo(alloc: Global, text: &[u8]) -> Result<Option<Name>, NodeFault>
+fn taboo(alloc: Global, text: &[u8]) -> Result<Option<Name>, LineFault>
     ensures found { IfOk result (SpellsTaboo text.now) }
-    ensures fault { IfErr result (IsNodeFaultOf ((y : Option (List ℕ)) → ¬ SpellsTaboo text.now y)) }
+    ensures fault { IfErr result (IsLineFaultOf ((y : Option (List ℕ)) → ¬ SpellsTaboo text.now y)) }
 {
     if text.is_empty() {
         return Ok(None);
@@ -56,22 +55,22 @@ fn taboo(alloc: Global, text: &[u8]) -> Result<Option<Name>, NodeFault>
 }
 
 /// A name over its argument dots, or a unit symbol, each of its kind.
-fn called(alloc: Global, applied: Kind, unit: Kind, text: &[u8]) -> Result<Sym, NodeFault>
+fn called(alloc: Global, applied: Kind, unit: Kind, text: &[u8]) -> Result<Sym, LineFault>
     requires { ArePaired applied unit }
     ensures found { IfOk result (SpellsCalled applied unit text.now) }
-    ensures fault { IfErr result (IsNodeFaultOf ((s : TreeSym) → ¬ SpellsCalled applied unit text.now s)) }
+    ensures fault { IfErr result (IsLineFaultOf ((s : TreeSym) → ¬ SpellsCalled applied unit text.now s)) }
 {
     let Some((x, rest)) = cut_at(text, b'(') else {
-        return Err(NodeFault::Malformed);
+        return Err(LineFault::Malformed);
     };
     let Some(inner) = behind(rest, b"|") else {
         let Some(arity) = arity(rest) else {
-            return Err(NodeFault::Malformed);
+            return Err(LineFault::Malformed);
         };
         return symbol(alloc, applied, x, usize::from(arity));
     };
     let Some(y) = before(inner, b"|)") else {
-        return Err(NodeFault::Malformed);
+        return Err(LineFault::Malformed);
     };
     let name = name(alloc, x)?;
     let taboo = taboo(alloc, y)?;
@@ -84,13 +83,13 @@ fn called(alloc: Global, applied: Kind, unit: Kind, text: &[u8]) -> Result<Sym, 
 }
 
 /// A symbol for formulas: a predicate, a unit predicate or a predicational.
-fn for_formulas(alloc: Global, text: &[u8]) -> Result<Sym, NodeFault>
+fn for_formulas(alloc: Global, text: &[u8]) -> Result<Sym, LineFault>
     ensures found { IfOk result (SpellsOfSort Sort.Formula text.now) }
-    ensures fault { IfErr result (IsNodeFaultOf ((s : TreeSym) → ¬ SpellsOfSort Sort.Formula text.now s)) }
+    ensures fault { IfErr result (IsLineFaultOf ((s : TreeSym) → ¬ SpellsOfSort Sort.Formula text.now s)) }
 {
     let Some(_) = cut_at(text, b'(') else {
         let Some(x) = before(text, b"{_}") else {
-            return Err(NodeFault::Malformed);
+            return Err(LineFault::Malformed);
         };
         return symbol(alloc, Kind::Quant, x, 0);
     };
@@ -98,18 +97,18 @@ fn for_formulas(alloc: Global, text: &[u8]) -> Result<Sym, NodeFault>
 }
 
 /// A symbol for programs: a program constant or an ODE constant.
-fn for_programs(alloc: Global, text: &[u8]) -> Result<Sym, NodeFault>
+fn for_programs(alloc: Global, text: &[u8]) -> Result<Sym, LineFault>
     ensures found { IfOk result (SpellsOfSort Sort.Program text.now) }
-    ensures fault { IfErr result (IsNodeFaultOf ((s : TreeSym) → ¬ SpellsOfSort Sort.Program text.now s)) }
+    ensures fault { IfErr result (IsLineFaultOf ((s : TreeSym) → ¬ SpellsOfSort Sort.Program text.now s)) }
 {
     let Some(inner) = behind(text, b"{") else {
         let Some(x) = before(text, b";") else {
-            return Err(NodeFault::Malformed);
+            return Err(LineFault::Malformed);
         };
         return symbol(alloc, Kind::Prog, x, 0);
     };
     let Some(inner) = before(inner, b"}") else {
-        return Err(NodeFault::Malformed);
+        return Err(LineFault::Malformed);
     };
     let (name, taboo) = constant(alloc, inner)?;
     Ok(Sym {
@@ -121,9 +120,9 @@ fn for_programs(alloc: Global, text: &[u8]) -> Result<Sym, NodeFault>
 }
 
 /// The symbol that the text says, of those that stand for trees of this sort.
-pub(crate) fn symbol_for(alloc: Global, sort: Sort, text: &[u8]) -> Result<Sym, NodeFault>
+pub(crate) fn symbol_for(alloc: Global, sort: Sort, text: &[u8]) -> Result<Sym, LineFault>
     ensures found { IfOk result (SpellsOfSort sort text.now) }
-    ensures fault { IfErr result (IsNodeFaultOf ((s : TreeSym) → ¬ SpellsOfSort sort text.now s)) }
+    ensures fault { IfErr result (IsLineFaultOf ((s : TreeSym) → ¬ SpellsOfSort sort text.now s)) }
 {
     match sort {
         Sort::Term => called(alloc, Kind::Func, Kind::UnitFunc, text),

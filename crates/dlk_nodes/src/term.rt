@@ -4,18 +4,17 @@ ghost use Rattle.dlk_store.specs.Stores.{IsId};
 ghost use Rattle.dlk_rules.specs.Steps.{step_at, HasKnownIds};
 ghost use Rattle.dlk_print.specs.Printed.{Begun, Appends};
 ghost use Rattle.dlk_lines.specs.Written.{trees_of};
-ghost use Rattle.dlk_nodes.specs.declared.fault.NodeFault.TheVariants.{Memory};
+ghost use Rattle.dlk_lines.specs.declared.fault.LineFault.TheVariants.{Memory};
 ghost use Rattle.dlk_nodes.specs.Put.{AreBegun, KidsFollow};
 ghost use Rattle.dlk_nodes.specs.Tables.{nodes_at};
 ghost use Rattle.dlk_nodes.specs.TermFiles.{nodes_after, node_lines, its_lines, ended};
 ghost use Rattle.dlk_nodes.specs.Terms.{new_in_each};
 
 use crate::adding::add_step;
-use crate::fault::NodeFault;
 use crate::spelling::NodesOf;
 use crate::table::NodeTable;
 use crate::writing::append_node;
-use dlk_lines::write_step_line;
+use dlk_lines::{LineFault, write_step_line};
 use dlk_print::{PrintFault, append};
 use dlk_rules::Step;
 use dlk_store::{Steps, Store};
@@ -33,7 +32,8 @@ fn append_nodes<S: Store, L: Ledger>(
     requires nodes { All (IsId (S.trees store.now)) table.now }
     requires from { from ≤ length table.now }
     requires follow { KidsFollow (take from (nodes_at (S.trees store.now) table.now)) (drop from (nodes_at (S.trees store.now) table.now)) }
-    ensures text { Appends out.old.items out.new.items (ended (node_lines (take from (nodes_at (S.trees store.now) table.now)) (drop from (nodes_at (S.trees store.now) table.now)))) result }
+    ensures text { Appends out.old.items out.new.items
+        (ended (node_lines (take from (nodes_at (S.trees store.now) table.now)) (drop from (nodes_at (S.trees store.now) table.now)))) result }
     ensures looks { steps.new ≤ steps.old + (length table.now - from) }
 {
     for place in from..table.len() {
@@ -57,14 +57,18 @@ pub fn write_step<S: Store, L: Ledger>(
     store: &S,
     out: &mut Vec<u8>,
     steps: &mut Steps<L>,
-) -> Result<(), NodeFault>
+) -> Result<(), LineFault>
     requires unique { IsTrue S.unique }
     requires step { HasKnownIds (S.trees store.now) step.now }
     requires nodes { All (IsId (S.trees store.now)) table.old }
-    ensures text { OnOk result (out.new.items ≡ out.old.items ++ ended (its_lines (nodes_at (S.trees store.now) table.old) number (step_at (S.trees store.now) step.now))) }
-    ensures begun { Begun out.old.items out.new.items (ended (its_lines (nodes_at (S.trees store.now) table.old) number (step_at (S.trees store.now) step.now))) }
-    ensures nodes { OnOk result (nodes_at (S.trees store.now) table.new ≡ nodes_after (nodes_at (S.trees store.now) table.old) (step_at (S.trees store.now) step.now)) }
-    ensures put { AreBegun (nodes_at (S.trees store.now) table.old) (nodes_at (S.trees store.now) table.new) (new_in_each (nodes_at (S.trees store.now) table.old) (trees_of (step_at (S.trees store.now) step.now))) }
+    ensures text { OnOk result (out.new.items ≡ out.old.items ++
+        ended (its_lines (nodes_at (S.trees store.now) table.old) number (step_at (S.trees store.now) step.now))) }
+    ensures begun { Begun out.old.items out.new.items
+        (ended (its_lines (nodes_at (S.trees store.now) table.old) number (step_at (S.trees store.now) step.now))) }
+    ensures nodes { OnOk result
+        (nodes_at (S.trees store.now) table.new ≡ nodes_after (nodes_at (S.trees store.now) table.old) (step_at (S.trees store.now) step.now)) }
+    ensures put { AreBegun (nodes_at (S.trees store.now) table.old) (nodes_at (S.trees store.now) table.new)
+        (new_in_each (nodes_at (S.trees store.now) table.old) (trees_of (step_at (S.trees store.now) step.now))) }
     ensures known { All (IsId (S.trees store.now)) table.new }
     ensures memory { IfErr result (λ e. e ≡ Memory) }
     ensures looks { OnOk result (steps.new + 2 * length table.old ≤ steps.old + 2 * length table.new) }

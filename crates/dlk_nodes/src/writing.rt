@@ -1,14 +1,13 @@
 //! Node lines, written.
 ghost use Rattle.std.specs.Prelude.{◌+◌, ◌≤◌, ◌++◌, codes, All, IsTrue, Option};
 ghost use Rattle.std.specs.Fmt.{decimal};
-ghost use Rattle.std.specs.List.{join_by};
-ghost use Rattle.dlk_store.specs.Stores.{IsId, tree, kid_trees};
+ghost use Rattle.std.specs.List.{join_by, flat_map};
+ghost use Rattle.dlk_store.specs.Stores.{IsId, tree};
 ghost use Rattle.dlk_grammar.specs.Shown.{literal};
 ghost use Rattle.dlk_print.specs.Printed.{Appends};
 ghost use Rattle.dlk_nodes.specs.Words.{variable_text, with_taboo, unit_text, item_text, detail_text, call_of, op_text};
-ghost use Rattle.dlk_lines.specs.Written.{number_text};
-ghost use Rattle.dlk_nodes.specs.Written.{kids_text, numbered_text};
-ghost use Rattle.dlk_nodes.specs.Tables.{nodes_at};
+ghost use Rattle.dlk_nodes.specs.Written.{numbered_text};
+ghost use Rattle.dlk_nodes.specs.Tables.{nodes_at, id_text};
 
 use crate::table::NodeTable;
 use crate::words::word;
@@ -167,40 +166,25 @@ fn append_op(out: &mut Vec<u8>, op: &Op) -> Result<(), PrintFault>
     append_detail(out, op)
 }
 
-/// Appends the number of the tree's node, which counts from 1.
-pub(crate) fn append_place<S: Store>(
-    store: &S,
-    table: &NodeTable,
-    id: Id,
-    out: &mut Vec<u8>,
-) -> Result<(), PrintFault>
-    requires unique { IsTrue S.unique }
-    requires nodes { All (IsId (S.trees store.now)) table.now }
-    requires id { IsId (S.trees store.now) id }
-    ensures { Appends out.old.items out.new.items (number_text (nodes_at (S.trees store.now) table.now) (tree (S.trees store.now) id)) result }
+/// Appends the number of the id's node, which counts from 1.
+pub(crate) fn append_place(table: &NodeTable, id: Id, out: &mut Vec<u8>) -> Result<(), PrintFault>
+    ensures { Appends out.old.items out.new.items (id_text table.now id) result }
 {
-    let _store = store;
-    match table.place(id) {
-        Some(place) => append_decimal(out, place as u128 + 1),
-        None => append_decimal(out, table.len() as u128 + 1),
-    }
+    let place = table.place(id).unwrap_or(table.len());
+    append_decimal(out, place as u128 + 1)
 }
 
-/// Appends the numbers of the kids' nodes, each behind a space.
-fn append_kids<S: Store>(
-    store: &S,
+/// Appends the numbers of nodes, each behind a space.
+pub(crate) fn append_behind(
     table: &NodeTable,
-    kids: &[Id],
+    ids: &[Id],
     out: &mut Vec<u8>,
 ) -> Result<(), PrintFault>
-    requires unique { IsTrue S.unique }
-    requires nodes { All (IsId (S.trees store.now)) table.now }
-    requires kids { All (IsId (S.trees store.now)) kids.now }
-    ensures { Appends out.old.items out.new.items (kids_text (nodes_at (S.trees store.now) table.now) (kid_trees (S.trees store.now) kids.now)) result }
+    ensures { Appends out.old.items out.new.items (flat_map (λ id. codes " " ++ id_text table.now id) ids.now) result }
 {
-    for kid in kids {
+    for id in ids {
         append(out, b" ")?;
-        append_place(store, table, *kid, out)?;
+        append_place(table, *id, out)?;
     }
     Ok(())
 }
@@ -229,5 +213,5 @@ pub fn append_node<S: Store, L: Ledger>(
     append_decimal(out, number as u128)?;
     append(out, b" ")?;
     append_op(out, node.op)?;
-    append_kids(store, table, node.kids, out)
+    append_behind(table, node.kids, out)
 }

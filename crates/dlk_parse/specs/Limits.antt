@@ -39,7 +39,8 @@ IsBeyond ps starts (parse.Nesting at) = ⊥
 IsBeyond ps starts (parse.Syntax at) = ⊥
 IsBeyond ps starts (parse.Shape at) = (place : ℕ) × (lowest (flat_map ills ps) ≡ Some place) × (slice_get starts place ≡ Some at)
 IsBeyond ps starts (parse.TooBig n) = (lowest (flat_map ills ps) ≡ None) × FirstPast size most_nodes (map erase ps) n
-IsBeyond ps starts (parse.TooDeep n) = (lowest (flat_map ills ps) ≡ None) × All (λ t. size t ≤ most_nodes) (map erase ps) × FirstPast depth greatest_depth (map erase ps) n
+IsBeyond ps starts (parse.TooDeep n) = (lowest (flat_map ills ps) ≡ None) × All (λ t. size t ≤ most_nodes) (map erase ps) ×
+    FirstPast depth greatest_depth (map erase ps) n
 IsBeyond ps starts parse.Memory = Unit {0}
 
 -- wherever the measures are those of phrases, this is what is known of them

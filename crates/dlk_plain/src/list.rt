@@ -149,7 +149,8 @@ impl PlainStore {
         names: &[Name],
     ) -> Result<(), StoreFault>
         requires { IsSet (trees_of self.now.nodes.items) set }
-        ensures { OnOk result (Adds var_eq (told (set_of (trees_of self.now.nodes.items) set) others (λ x. list_any (bytes_eq x) names.now)) vars.old.keys vars.new.keys) }
+        ensures { OnOk result
+            (Adds var_eq (told (set_of (trees_of self.now.nodes.items) set) others (λ x. list_any (bytes_eq x) names.now)) vars.old.keys vars.new.keys) }
     {
         for name in names {
             self.list_name(vars, set, others, name)?;

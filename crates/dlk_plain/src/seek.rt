@@ -99,7 +99,8 @@ impl PlainStore {
     pub(crate) fn has_some(&self, set: VarSet, id: Id) -> bool
         requires known { IsId (trees_of self.now.nodes.items) id }
         requires set { IsSet (trees_of self.now.nodes.items) set }
-        ensures { let set = set_of (trees_of self.now.nodes.items) set in result ≡ (set nowhere || has (any_name (has_either set)) (tree (trees_of self.now.nodes.items) id)) }
+        ensures { let set = set_of (trees_of self.now.nodes.items) set in
+            result ≡ (set nowhere || has (any_name (has_either set)) (tree (trees_of self.now.nodes.items) id)) }
     {
         self.in_set(set, &[]).plain || self.has_at(id, Sought::NameOf(set))
     }

@@ -257,7 +257,8 @@ impl Members {
 
     /// A system of these items over such terms and such a domain.
     pub fn evolves(self, items: &[OdeItem], name: &[u8]) -> Members
-        ensures { result ≡ members_are (union (on name.now (free_in_items items.now)) self.free) (on name.now (bound_in_items items.now)) (on name.now (must_in_items items.now)) }
+        ensures { result ≡ members_are (union (on name.now (free_in_items items.now)) self.free) (on name.now (bound_in_items items.now))
+            (on name.now (must_in_items items.now)) }
     {
         Members {
             free: free_in_items(items, name).either(self.free),

@@ -82,7 +82,8 @@ fn inside_text<S: Store, L: Ledger>(
     steps: &mut Steps<L>,
 ) -> Result<(), PrintFault>
     requires { All (IsId (S.trees store.now)) kids.now }
-    ensures text { let trees = kid_trees (S.trees store.now) kids.now in Appends out.old.items out.new.items (spell (inside (items_of op.now) (between op.now) (trees_in trees) (shown_kids op.now 0 trees))) result }
+    ensures text { let trees = kid_trees (S.trees store.now) kids.now in
+        Appends out.old.items out.new.items (spell (inside (items_of op.now) (between op.now) (trees_in trees) (shown_kids op.now 0 trees))) result }
     ensures cost { steps.new ≤ steps.old + size_all (kid_trees (S.trees store.now) kids.now) }
 {
     match items_of(op) {
@@ -131,9 +132,12 @@ fn items_text<'a, S: Store, L: Ledger>(
     steps: &mut Steps<L>,
 ) -> Result<&'a [Id], PrintFault>
     requires { All (IsId (S.trees store.now)) kids.now }
-    ensures text { Appends out.old.items out.new.items (spell (joined (mark Comma ∷ []) (item_texts items.now (texts_of (S.trees store.now) kids.now)))) result }
+    ensures text { Appends out.old.items out.new.items
+        (spell (joined (mark Comma ∷ []) (item_texts items.now (texts_of (S.trees store.now) kids.now)))) result }
     ensures left { IfOk result (λ left. left.now ≡ drop (length (evolved items.now)) kids.now) }
-    ensures cost { MatchResult result (λ left. steps.new + size_all (kid_trees (S.trees store.now) left.now) ≤ steps.old + size_all (kid_trees (S.trees store.now) kids.now)) (λ _. steps.new ≤ steps.old + size_all (kid_trees (S.trees store.now) kids.now)) }
+    ensures cost { MatchResult result
+        (λ left. steps.new + size_all (kid_trees (S.trees store.now) left.now) ≤ steps.old + size_all (kid_trees (S.trees store.now) kids.now))
+        (λ _. steps.new ≤ steps.old + size_all (kid_trees (S.trees store.now) kids.now)) }
 {
     let mut left = kids;
     for (i, next) in items.iter().enumerate() {
@@ -155,7 +159,9 @@ fn item<'a, S: Store, L: Ledger>(
     requires { All (IsId (S.trees store.now)) kids.now }
     ensures text { Appends out.old.items out.new.items (spell (item_text item.now (texts_of (S.trees store.now) kids.now))) result }
     ensures left { IfOk result (λ left. left.now ≡ drop (length (evolved (item.now ∷ []))) kids.now) }
-    ensures cost { MatchResult result (λ left. steps.new + size_all (kid_trees (S.trees store.now) left.now) ≤ steps.old + size_all (kid_trees (S.trees store.now) kids.now)) (λ _. steps.new ≤ steps.old + size_all (kid_trees (S.trees store.now) kids.now)) }
+    ensures cost { MatchResult result
+        (λ left. steps.new + size_all (kid_trees (S.trees store.now) left.now) ≤ steps.old + size_all (kid_trees (S.trees store.now) kids.now))
+        (λ _. steps.new ≤ steps.old + size_all (kid_trees (S.trees store.now) kids.now)) }
 {
     match item {
         OdeItem::Const(s) => {
@@ -181,7 +187,9 @@ fn term<'a, S: Store, L: Ledger>(
     requires { All (IsId (S.trees store.now)) kids.now }
     ensures text { Appends out.old.items out.new.items (spell (slice_index_or (texts_of (S.trees store.now) kids.now) 0 [])) result }
     ensures left { IfOk result (λ left. left.now ≡ drop 1 kids.now) }
-    ensures cost { MatchResult result (λ left. steps.new + size_all (kid_trees (S.trees store.now) left.now) ≤ steps.old + size_all (kid_trees (S.trees store.now) kids.now)) (λ _. steps.new ≤ steps.old + size_all (kid_trees (S.trees store.now) kids.now)) }
+    ensures cost { MatchResult result
+        (λ left. steps.new + size_all (kid_trees (S.trees store.now) left.now) ≤ steps.old + size_all (kid_trees (S.trees store.now) kids.now))
+        (λ _. steps.new ≤ steps.old + size_all (kid_trees (S.trees store.now) kids.now)) }
 {
     let Some((kid, left)) = kids.split_first() else {
         return Ok(kids);

@@ -2,7 +2,8 @@
 ghost use Rattle.std.specs.Prelude.{◌≡◌, [], ◌∷◌, ◌++◌, if◌then◌else◌, ◌==◌, None, MatchOption, codes};
 ghost use Rattle.dlk_tree.specs.declared.op.Op.TheVariants.{System};
 ghost use Rattle.std.specs.Fmt.{decimal};
-ghost use Rattle.dlk_grammar.specs.Shown.{spell, level, least, opening, between, closing, items_of, variable, unit_brackets, ode_brackets, is_true, open_bracket, close_bracket};
+ghost use Rattle.dlk_grammar.specs.Shown.{spell, level, least, opening, between, closing, items_of, variable, unit_brackets, ode_brackets, is_true};
+ghost use Rattle.dlk_grammar.specs.Shown.{open_bracket, close_bracket};
 ghost use Rattle.dlk_print.specs.Printed.{Appends};
 
 use crate::appending::{append, append_between, append_name};

@@ -14,7 +14,8 @@ use dlk_derive::laws::plan_rewrites_in_place;
 /// the model with the derivative in the place of the `( )'` as its only goal, and as leaves the conditions on exponents, each once. The plan
 /// is that of the place, and short.
 pub fn derivative_is_reached()
-    ensures reached { (byte : ℕ) (model k d : Tree) (path : List ℕ) → Derivable model path k d → Reaches byte (plan_at k path) model (put_at model path d) (conditions k) }
+    ensures reached { (byte : ℕ) (model k d : Tree) (path : List ℕ) → Derivable model path k d →
+        Reaches byte (plan_at k path) model (put_at model path d) (conditions k) }
     ensures plans { (model k d : Tree) (path : List ℕ) → Derivable model path k d → Plans (Some model) path (plan_at k path) }
     ensures few { (model k d : Tree) (path : List ℕ) → Derivable model path k d → length (plan_at k path) ≤ 149 }
 {

@@ -11,8 +11,8 @@ use Rattle.dlk_machine.specs.Machine.{unary}
 use Rattle.dlk_reader.specs.Codes.{postfix}
 use Rattle.dlk_reader.specs.Shows.{between_of, said, prefix_of, shape, prefix_code, operator_of, operator_before, part_code, piece_code, prime_code}
 use Rattle.dlk_reader.specs.Shows.{primes_code, head_of, head_code, unit_code, symbol_of, IsLast, Agrees, Writes, Joins}
-use Rattle.dlk_reader.specs.declared.stop.StepFault.{StepFault}
-use Rattle.dlk_reader.specs.declared.stop.StepFault.TheVariants.{Memory, Syntax}
+use Rattle.dlk_reader.specs.declared.stop.LexemeFault.{LexemeFault}
+use Rattle.dlk_reader.specs.declared.stop.LexemeFault.TheVariants.{Memory, Syntax}
 use Rattle.dlk_reader.specs.declared.code.Code.{Code}
 use Rattle.dlk_reader.specs.declared.code.Code.TheVariants as code
 use Rattle.dlk_reader.specs.declared.parts.Between.{Between as BetweenPart}
@@ -26,7 +26,7 @@ use Rattle.dlk_reader.specs.declared.parts.Last.{Last}
 use Rattle.dlk_reader.specs.declared.parts.Last.TheVariants as last
 
 -- a fault of the first step
-pub agrees_err : {X Y V W : Type 0} (s : X → Y → Type 0) (r : V → W → Type 0) (f : StepFault) (o : Option Y) (g : Y → Option W) → Agrees s (Err f) o
+pub agrees_err : {X Y V W : Type 0} (s : X → Y → Type 0) (r : V → W → Type 0) (f : LexemeFault) (o : Option Y) (g : Y → Option W) → Agrees s (Err f) o
     → Agrees r (Err f) (o >>= g)
 agrees_err s r Memory o g a = tt
 agrees_err s r Syntax (Some y) g a = absurd a
@@ -60,7 +60,7 @@ postfix_formula_primes (suc n) t = ap (λ (l : List Code). l ++ prime_code true 
     ∙ append_assoc (postfix t) (primes_code true n) (prime_code true ∷ [])
 
 -- primes behind a symbol
-pub primes_written : (h : Head) (n : ℕ) (before mid new : List Code) (r : Result (Unit {0}) StepFault) → mid ≡ before ++ postfix (Apply h)
+pub primes_written : (h : Head) (n : ℕ) (before mid new : List Code) (r : Result (Unit {0}) LexemeFault) → mid ≡ before ++ postfix (Apply h)
     → Agrees (λ _ c. new ≡ mid ++ c) r (Some (primes_code false n)) → Agrees (λ _ t. Writes new before t) r (Some (primes n (Apply h)))
 primes_written h n before mid new (Ok x) m a = record {
   out = a ∙ ap (λ (l : List Code). l ++ primes_code false n) m ∙ append_assoc before (postfix (Apply h)) (primes_code false n)
@@ -69,7 +69,7 @@ primes_written h n before mid new (Ok x) m a = record {
 primes_written h n before mid new (Err Memory) m a = tt
 primes_written h n before mid new (Err Syntax) m a = absurd a
 
-pub formula_primes_written : (h : Head) (n : ℕ) (before mid new : List Code) (r : Result (Unit {0}) StepFault) → mid ≡ before ++ postfix (Holds h)
+pub formula_primes_written : (h : Head) (n : ℕ) (before mid new : List Code) (r : Result (Unit {0}) LexemeFault) → mid ≡ before ++ postfix (Holds h)
     → Agrees (λ _ c. new ≡ mid ++ c) r (Some (primes_code true n)) → Agrees (λ _ t. Writes new before t) r (Some (formula_primes n (Holds h)))
 formula_primes_written h n before mid new (Ok x) m a = record {
   out = a ∙ ap (λ (l : List Code). l ++ primes_code true n) m ∙ append_assoc before (postfix (Holds h)) (primes_code true n)
@@ -99,7 +99,7 @@ any_written holds x y (Any z s) before out new is at w = go holds (w ∙ ap (λ 
     }
 
 -- what a call of settle answers for what was read last
-abbrev pub Settles : List Code → List Code → Last → Sort → Result (Unit {0}) StepFault → Type 0
+abbrev pub Settles : List Code → List Code → Last → Sort → Result (Unit {0}) LexemeFault → Type 0
 Settles old new l s r = (p : Piece) (before : List Code) → IsLast l p → old ≡ before ++ piece_code p → Agrees (λ _ t. Writes new before t) r (as_sort s p)
 
 postfix_binary : (o : Between) (a b : Phrase) → postfix (binary o a b) ≡ postfix a ++ (postfix b ++ code.Operator (operator_of o) ∷ [])
@@ -120,7 +120,7 @@ behind before a b mid new c x m n e = n ∙ ap (λ (l : List Code). l ++ x ∷ [
     ∙ append_assoc before a (b ++ x ∷ []) ∙ ap (λ (l : List Code). before ++ l) (sym e)
 
 module _ (old mid new : List Code) (l : Last) (x : OpenPart) (p : Piece) (before : List Code) (is : IsLast l p) where
-  pub left_err : (b : BetweenPart) (so : Sort) (f : StepFault) (e : Part) → so ≡ operand_sort (said b) → x ≡ part.Left b → x ≡ shape e
+  pub left_err : (b : BetweenPart) (so : Sort) (f : LexemeFault) (e : Part) → so ≡ operand_sort (said b) → x ≡ part.Left b → x ≡ shape e
       → old ≡ before ++ (part_code e ++ piece_code p) → Settles old new l so (Err f) → Agrees (Joins new before) (Err f) (join e p)
   left_err b so f (Left o a) z y k at c =
       let same : said b ≡ o = said_is b o cc in
@@ -147,7 +147,7 @@ module _ (old mid new : List Code) (l : Last) (x : OpenPart) (p : Piece) (before
   left_ok b so rs (Before o) z z' y k at c n = absurd cc
   left_ok b so rs (Inside o) z z' y k at c n = absurd cc
 
-  pub before_err : (b : PrefixPart) (so : Sort) (f : StepFault) (e : Part) → ((q : Prefix) → b ≡ prefix_of q → so ≡ prefix_sort q) → x ≡ part.Before b
+  pub before_err : (b : PrefixPart) (so : Sort) (f : LexemeFault) (e : Part) → ((q : Prefix) → b ≡ prefix_of q → so ≡ prefix_sort q) → x ≡ part.Before b
       → x ≡ shape e → old ≡ before ++ (part_code e ++ piece_code p) → Settles old new l so (Err f) → Agrees (Joins new before) (Err f) (join e p)
   before_err b so f (Before o) z y k at c =
       let z' : so ≡ prefix_sort o = z o cc in
@@ -175,7 +175,7 @@ module _ (old mid new : List Code) (l : Last) (x : OpenPart) (p : Piece) (before
   before_ok b so v (Inside o) z d y k at c n = absurd cc
 
 -- a fault where there is a value is want of memory
-pub agrees_memory : {X Y V W : Type 0} (s : X → Y → Type 0) (r : V → W → Type 0) (f : StepFault) (y : Y) (o : Option W) → Agrees s (Err f) (Some y)
+pub agrees_memory : {X Y V W : Type 0} (s : X → Y → Type 0) (r : V → W → Type 0) (f : LexemeFault) (y : Y) (o : Option W) → Agrees s (Err f) (Some y)
     → Agrees r (Err f) o
 agrees_memory s r Memory y o a = tt
 agrees_memory s r Syntax y o a = absurd a
@@ -193,7 +193,7 @@ ok_maps s r x v (Some y) g f a = f y a
 ok_maps s r x v None g f a = a
 
 -- a fault, whatever a value were to show
-pub err_same : {X Y V : Type 0} (s : X → Y → Type 0) (r : V → Y → Type 0) (f : StepFault) (o : Option Y) → Agrees s (Err f) o → Agrees r (Err f) o
+pub err_same : {X Y V : Type 0} (s : X → Y → Type 0) (r : V → Y → Type 0) (f : LexemeFault) (o : Option Y) → Agrees s (Err f) o → Agrees r (Err f) o
 err_same s r Memory (Some y) a = a
 err_same s r Memory None a = a
 err_same s r Syntax (Some y) a = a

@@ -12,8 +12,8 @@ use Rattle.dlk_machine.specs.Machine.{Domain, Notes, Piece, Is, Tail, Braced, St
 use Rattle.dlk_reader.specs.Codes.{postfix, postfix_terms}
 use Rattle.dlk_reader.specs.Shows.{holder_of, holder_code, equations_of, stack_code, closer_lexeme, left_opened, formulas_joined, last_of}
 use Rattle.dlk_reader.specs.Shows.{IsNoBracket, IsVariable, IsOpen, Shows, Agrees, Writes}
-use Rattle.dlk_reader.specs.declared.stop.StepFault.{StepFault}
-use Rattle.dlk_reader.specs.declared.stop.StepFault.TheVariants.{Memory, Syntax}
+use Rattle.dlk_reader.specs.declared.stop.LexemeFault.{LexemeFault}
+use Rattle.dlk_reader.specs.declared.stop.LexemeFault.TheVariants.{Memory, Syntax}
 use Rattle.dlk_reader.specs.declared.code.Code.{Code}
 use Rattle.dlk_reader.specs.declared.code.Code.TheVariants as code
 use Rattle.dlk_reader.specs.declared.parts.Equations.{Equations}
@@ -39,10 +39,10 @@ evolves_is e x (Evolves n l y) k = let same : x ≡ y = cc in (n, l, ap (Evolves
 evolves_is e x _ k = absurd cc
 
 -- what a call of add_item answers for an evolved variable
-abbrev pub Adds : Equations → Word → Result Equations StepFault → Type 0
+abbrev pub Adds : Equations → Word → Result Equations LexemeFault → Type 0
 Adds e x r = (n : ℕ) (l : Items) (i : Item) → e ≡ equations_of n l → ode.Evolve x ≡ item_of i → Agrees (λ e m. e ≡ equations_of n m) r (Some (add l i))
 
-pub evolves_err : {V W : Type 0} (r : V → W → Type 0) (e : Equations) (x : Word) (n : ℕ) (l : Items) (f : StepFault) (o : Option W) → e ≡ equations_of n l
+pub evolves_err : {V W : Type 0} (r : V → W → Type 0) (e : Equations) (x : Word) (n : ℕ) (l : Items) (f : LexemeFault) (o : Option W) → e ≡ equations_of n l
     → Adds e x (Err f) → Agrees r (Err f) o
 evolves_err r e x n l f o k a = agrees_memory (λ (e : Equations) m. e ≡ equations_of n m) r f (add l (Evolve x Truth)) o (a n l (Evolve x Truth) k refl)
 
@@ -68,7 +68,7 @@ unsettled closer.Round (Notes b l) S p w e = rw e refl
 unsettled closer.Comma (Notes b l) S p w e = rw e refl
 unsettled _ _ S p w e = refl
 
-pub close_err : {X V : Type 0} (s : X → Phrase → Type 0) (r : V → State → Type 0) (c : Closer) (h : Holder) (S : List Part) (p : Piece) (f : StepFault)
+pub close_err : {X V : Type 0} (s : X → Phrase → Type 0) (r : V → State → Type 0) (c : Closer) (h : Holder) (S : List Part) (p : Piece) (f : LexemeFault)
     → IsNoBracket h → Agrees s (Err f) (as_sort (held_sort h) p) → Agrees r (Err f) (close (closer_lexeme c) h S p)
 close_err s r c h S p Memory n a = tt
 close_err s r c h S p Syntax n a = rw (unsettled c h S p n (none (as_sort (held_sort h) p) a)) tt
@@ -91,11 +91,11 @@ formulas_joined_is g S p = go (as_sort Formula p) (fits g Formula S)
     go (Some a) false = refl
 
 -- what a call of made answers for the operator of a system
-abbrev pub Makes : Equations → Stack → Stack → Result Mode StepFault → Type 0
+abbrev pub Makes : Equations → Stack → Stack → Result Mode LexemeFault → Type 0
 Makes e k m r = (S : List Part) (operands : List Code) (t : Phrase) (j : Tail) → postfix t ≡ operands ++ code.System e.at e.items ∷ [] → IsOpen k S operands
     → last.Tree Program tail.Braced ≡ last_of (Is Program t j) → IsVariable j (Is Program t j) → Agrees (Shows m) r (Some (Has S (Is Program t j)))
 
-pub domain_closed : (e : Equations) (k m : Stack) (r : Result Mode StepFault) (S : List Part) (h : Holder) (p : Piece) (t : Phrase)
+pub domain_closed : (e : Equations) (k m : Stack) (r : Result Mode LexemeFault) (S : List Part) (h : Holder) (p : Piece) (t : Phrase)
     → holder.Domain e ≡ holder_of h → as_sort (held_sort h) p ≡ Some t → IsOpen k S (holder_code h ++ postfix t) → Makes e k m r
     → Agrees (Shows m) r (close CloseBrace h S p)
 domain_closed e k m r S (Domain n l) p t is w at makes =
@@ -103,11 +103,11 @@ domain_closed e k m r S (Domain n l) p t is w at makes =
     rw w (makes S (postfix_terms l ++ postfix t) (System n l t) Braced (system_code e n l t same) at refl tt)
 domain_closed e k m r S _ p t is w at makes = absurd cc
 
-pub evolves_any_err : {V W : Type 0} (r : V → W → Type 0) (e : Equations) (x : Word) (h : Holder) (f : StepFault) (o : Option W)
+pub evolves_any_err : {V W : Type 0} (r : V → W → Type 0) (e : Equations) (x : Word) (h : Holder) (f : LexemeFault) (o : Option W)
     → holder.Evolves e x ≡ holder_of h → Adds e x (Err f) → Agrees r (Err f) o
 evolves_any_err r e x h f o is a = let w = evolves_is e x h is in evolves_err r e x w.0 w.1 f o w.3 a
 
-pub evolves_brace : (e d : Equations) (x : Word) (k m : Stack) (r : Result Mode StepFault) (S : List Part) (h : Holder) (p : Piece) (t : Phrase)
+pub evolves_brace : (e d : Equations) (x : Word) (k m : Stack) (r : Result Mode LexemeFault) (S : List Part) (h : Holder) (p : Piece) (t : Phrase)
     → holder.Evolves e x ≡ holder_of h → as_sort (held_sort h) p ≡ Some t → IsOpen k S (holder_code h ++ postfix t) → Adds e x (Ok d)
     → ((S : List Part) (n : ℕ) (l : Items) → d ≡ equations_of n l → IsOpen k S (postfix_terms l) → Agrees (Shows m) r (items_step S n l CloseBrace))
     → Agrees (Shows m) r (close CloseBrace h S p)

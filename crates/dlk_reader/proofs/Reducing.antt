@@ -1,7 +1,7 @@
 -- One turn of the loop that closes open parts.
 use Rattle.std.proofs.Common.{◌≡◌, ℕ, Bool, true, false, ltb, List, [], ◌∷◌, ◌++◌, Option, Some, None, Result, Ok, Err, refl, ap, ◌∙◌, append_assoc}
 use Rattle.dlk_machine.specs.Machine.{◌>>=◌, Part, Piece, wanted, join, reduce}
-use Rattle.dlk_reader.specs.declared.stop.StepFault.{StepFault}
+use Rattle.dlk_reader.specs.declared.stop.LexemeFault.{LexemeFault}
 use Rattle.dlk_reader.specs.declared.code.Code.{Code}
 use Rattle.dlk_reader.specs.declared.parts.Part.{Part as OpenPart}
 use Rattle.dlk_reader.specs.declared.parts.Last.{Last}
@@ -29,7 +29,7 @@ none_taken n (e ∷ S) items q t = go (ltb n (wanted e)) refl t
     go false h t = (t.1, rw h refl)
 
 -- what join answers for the part, whatever its phrase
-abbrev pub JoinsTo : OpenPart → Last → List Code → List Code → Result Last StepFault → Type 0
+abbrev pub JoinsTo : OpenPart → Last → List Code → List Code → Result Last LexemeFault → Type 0
 JoinsTo x l out new r = (e : Part) (p : Piece) (before : List Code) → x ≡ shape e → IsLast l p → out ≡ before ++ (part_code e ++ piece_code p) →
     Agrees (Joins new before) r (join e p)
 
@@ -43,7 +43,7 @@ closed_one n T q x items out new l m k t is at j ki ko =
     let a = agrees_ok (Joins new (stack_code w.1)) m (join w.0 q) (j w.0 q (stack_code w.1) w.3 is at') in
     (w.1, a.0, record { last = a.2.last; lists = record { parts = ki ∙ w.4; out = ko ∙ a.2.out } }, w.5 q ∙ ap (λ (o : Option Piece). o >>= reduce n w.1) a.1)
 
-pub closed_err : (n : ℕ) (T : List Part) (q : Piece) (x : OpenPart) (items : List OpenPart) (out new : List Code) (l : Last) (k : Stack) (f : StepFault) →
+pub closed_err : (n : ℕ) (T : List Part) (q : Piece) (x : OpenPart) (items : List OpenPart) (out new : List Code) (l : Last) (k : Stack) (f : LexemeFault) →
     TakesAbove n T (Some x) items → IsLast l q → out ≡ stack_code T ++ piece_code q → JoinsTo x l out new (Err f)
     → Agrees (Reduces k) (Err f) (reduce n T q)
 closed_err n T q x items out new l k f t is at j =

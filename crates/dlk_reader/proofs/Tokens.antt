@@ -12,8 +12,8 @@ use Rattle.dlk_lex.specs.declared.source.Source.{Source}
 use Rattle.dlk_lex.specs.Taken.{Gives}
 use Rattle.dlk_lex.specs.Sources.{HasTaken, Takes, TakesOne, one_more, no_more, left_in, HasFinished, Finishes}
 use Rattle.dlk_lex.proofs.Sources.{one_gives}
-use Rattle.dlk_reader.specs.declared.stop.StepFault.{StepFault}
-use Rattle.dlk_reader.specs.declared.stop.StepFault.TheVariants.{Memory, Syntax}
+use Rattle.dlk_reader.specs.declared.stop.LexemeFault.{LexemeFault}
+use Rattle.dlk_reader.specs.declared.stop.LexemeFault.TheVariants.{Memory, Syntax}
 use Rattle.dlk_reader.specs.declared.stop.Stop.{Stop}
 use Rattle.dlk_reader.specs.Outcomes.{Outcome, Whole, Stopped, after_one, Steps, EndsAt, stop_at, ReadsTokens, OverSome, OverAll, ReadsUp, ReadsAll, of_lex}
 use Rattle.dlk_reader.specs.declared.stop.Stop.TheVariants as Stop
@@ -83,7 +83,7 @@ module _ {R V : Type 0} (comes : R → List Lexeme → Outcome V → Type 0) (fi
             subst (comes first (lexemes ((taken ++ t ∷ []) ++ behind))) (after_more (length taken) (length (taken ++ t ∷ [])) o size) all;
       }
 
-      pub at_fault : (f : StepFault) → Steps comes r k (Err f) → ReadsUp (ReadsTokens comes first) from next (Err (stop_at f t.at))
+      pub at_fault : (f : LexemeFault) → Steps comes r k (Err f) → ReadsUp (ReadsTokens comes first) from next (Err (stop_at f t.at))
       at_fault Memory step = tt
       at_fault Syntax step = record {
         taken = taken ++ t ∷ [];

@@ -10,8 +10,8 @@ use Rattle.dlk_lex.specs.declared.source.Source.{Source}
 use Rattle.dlk_lex.specs.Noted.{AreNoted}
 use Rattle.dlk_lex.specs.Taken.{Gives, Refuses}
 use Rattle.dlk_lex.specs.Sources.{HasTaken}
-use Rattle.dlk_reader.specs.declared.stop.StepFault.{StepFault}
-use Rattle.dlk_reader.specs.declared.stop.StepFault.TheVariants as step
+use Rattle.dlk_reader.specs.declared.stop.LexemeFault.{LexemeFault}
+use Rattle.dlk_reader.specs.declared.stop.LexemeFault.TheVariants as step
 use Rattle.dlk_reader.specs.declared.stop.Stop.{Stop}
 use Rattle.dlk_reader.specs.declared.stop.Stop.TheVariants.{Memory, BadByte, Syntax}
 
@@ -29,24 +29,24 @@ after_one (Stopped n) = Stopped (n + 1)
 
 -- What a step answers to a lexeme: a reader from which all comes out as from the first with the lexeme in front, or that the lexemes stop
 -- there. Want of memory is free, here and below.
-abbrev pub Steps : {R V : Type 0} → (R → List Lexeme → Outcome V → Type 0) → R → Lexeme → Result R StepFault → Type 0
+abbrev pub Steps : {R V : Type 0} → (R → List Lexeme → Outcome V → Type 0) → R → Lexeme → Result R LexemeFault → Type 0
 Steps {R} {V} comes r k (Ok next) = (s : List Lexeme) (o : Outcome V) → comes next s o → comes r (k ∷ s) (after_one o)
 Steps comes r k (Err step.Memory) = Unit {0}
 Steps comes r k (Err step.Syntax) = (s : List Lexeme) → comes r (k ∷ s) (Stopped 0)
 
 -- what a call that changes a reader answers, together with the reader that it leaves
-abbrev pub leaving : {R : Type 0} → R → Result (Unit {0}) StepFault → Result R StepFault
+abbrev pub leaving : {R : Type 0} → R → Result (Unit {0}) LexemeFault → Result R LexemeFault
 leaving r (Ok done) = Ok r
 leaving r (Err fault) = Err fault
 
 -- what the end answers
-abbrev pub Ends : {R V : Type 0} → (R → List Lexeme → Outcome V → Type 0) → R → Result V StepFault → Type 0
+abbrev pub Ends : {R V : Type 0} → (R → List Lexeme → Outcome V → Type 0) → R → Result V LexemeFault → Type 0
 Ends comes r (Ok v) = comes r [] (Whole v)
 Ends comes r (Err step.Memory) = Unit {0}
 Ends comes r (Err step.Syntax) = comes r [] (Stopped 0)
 
 -- a fault at the token that begins at this byte
-abbrev pub stop_at : StepFault → ℕ → Stop
+abbrev pub stop_at : LexemeFault → ℕ → Stop
 stop_at step.Memory at = Memory
 stop_at step.Syntax at = Syntax at
 

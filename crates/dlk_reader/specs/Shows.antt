@@ -20,8 +20,8 @@ use Rattle.dlk_machine.specs.Machine.{wanted}
 use Rattle.dlk_reader.specs.Codes.{postfix, postfix_all, postfix_terms}
 use Rattle.dlk_reader.specs.declared.code.Code.{Code}
 use Rattle.dlk_reader.specs.declared.code.Code.TheVariants as code
-use Rattle.dlk_reader.specs.declared.stop.StepFault.{StepFault}
-use Rattle.dlk_reader.specs.declared.stop.StepFault.TheVariants.{Memory, Syntax}
+use Rattle.dlk_reader.specs.declared.stop.LexemeFault.{LexemeFault}
+use Rattle.dlk_reader.specs.declared.stop.LexemeFault.TheVariants.{Memory, Syntax}
 use Rattle.dlk_reader.specs.Halves.{number_of}
 use Rattle.dlk_reader.specs.declared.lexeme.Lexeme.{Lexeme as SeenLexeme}
 use Rattle.dlk_reader.specs.declared.lexeme.Lexeme.TheVariants as lexeme
@@ -83,7 +83,7 @@ seen lexeme.Swaps = Swaps
 seen (lexeme.Op o) = Operator o
 
 -- the name that a lexeme is
-abbrev pub IsNameOf : Lexeme → Result Word StepFault → Type 0
+abbrev pub IsNameOf : Lexeme → Result Word LexemeFault → Type 0
 IsNameOf (Name n x) result = result ≡ Ok x
 IsNameOf _ result = result ≡ Err Syntax
 
@@ -331,7 +331,7 @@ pub record IsWhole (k : Stack) (t : Phrase) : Type 0 where
   pub out : k.out.items ≡ postfix t
 
 -- What a call answered is what the definition gives, unless memory ran out.
-abbrev pub Agrees : {X Y : Type 0} → (X → Y → Type 0) → Result X StepFault → Option Y → Type 0
+abbrev pub Agrees : {X Y : Type 0} → (X → Y → Type 0) → Result X LexemeFault → Option Y → Type 0
 Agrees shows (Ok x) (Some y) = shows x y
 Agrees shows (Ok x) None = ⊥
 Agrees shows (Err Memory) o = Unit {0}

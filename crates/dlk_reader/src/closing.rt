@@ -3,12 +3,14 @@ ghost use Rattle.std.specs.Prelude.{◌≡◌, ℕ, Bool, List, [], ◌∷◌, �
 ghost use Rattle.dlk_grammar.specs.Phrases.{Phrase, Context, Items as MachineItems};
 ghost use Rattle.dlk_grammar.specs.Lexemes.{Op as Operator};
 ghost use Rattle.dlk_grammar.specs.declared.token.Infix.TheVariants.{And};
-ghost use Rattle.dlk_machine.specs.Machine.{Part as MachinePart, Holder as MachineHolder, Tail as MachineTail, Piece, Is, Has, Round, Evolves, Grouped, with_tail, as_sort, held_sort, close, close_top, closing, and_top, infix_after};
+ghost use Rattle.dlk_machine.specs.Machine.{Part as MachinePart, Holder as MachineHolder, Tail as MachineTail, Piece, Is, Has, Round, Evolves, Grouped};
+ghost use Rattle.dlk_machine.specs.Machine.{with_tail, as_sort, held_sort, close, close_top, closing, and_top, infix_after};
 ghost use Rattle.dlk_reader.specs.declared.code.Code.{Code as TheCode};
 ghost use Rattle.dlk_reader.specs.declared.parts.Last.TheVariants as last;
 ghost use Rattle.dlk_reader.specs.Codes.{postfix, postfix_terms};
 ghost use Rattle.dlk_reader.specs.Outcomes.{leaving};
-ghost use Rattle.dlk_reader.specs.Shows.{holder_of, holder_code, equations_of, closer_lexeme, last_of, piece_code, formulas_joined, IsNoBracket, IsVariable, IsLast, IsOpen, Stands, Shows, Agrees};
+ghost use Rattle.dlk_reader.specs.Shows.{holder_of, holder_code, equations_of, closer_lexeme, last_of, piece_code, formulas_joined, IsNoBracket, IsVariable};
+ghost use Rattle.dlk_reader.specs.Shows.{IsLast, IsOpen, Stands, Shows, Agrees};
 
 use crate::code::Code;
 use crate::items::add_item;
@@ -17,7 +19,7 @@ use crate::parts::{
     Between, Closer, Equations, Head, Holder, Last, Modality, Mode, Part, Prefix, Tail,
 };
 use crate::stack::{Stack, one_more, pop, settle, variable};
-use crate::stop::StepFault;
+use crate::stop::LexemeFault;
 use crate::tables::{held_sort, level};
 use dlk_grammar::Infix;
 use dlk_tree::{Kind, Name, OdeItem, Op, Sort, Sym, Var};
@@ -29,7 +31,7 @@ impl Stack {
         mode: &mut Mode,
         closer: Closer,
         last: Last,
-    ) -> Result<(), StepFault>
+    ) -> Result<(), LexemeFault>
         ensures { (S : List MachinePart) (p : Piece) → Stands self.old last S p
             → Agrees (Shows self.new) (leaving mode.new result) (closing (closer_lexeme closer) S p) }
     {
@@ -38,13 +40,13 @@ impl Stack {
     }
 
     /// The innermost open part is to be a holder.
-    fn close_top(&mut self, mode: &mut Mode, closer: Closer, last: Last) -> Result<(), StepFault>
+    fn close_top(&mut self, mode: &mut Mode, closer: Closer, last: Last) -> Result<(), LexemeFault>
         ensures { (S : List MachinePart) (p : Piece) → Stands self.old last S p
             → Agrees (Shows self.new) (leaving mode.new result) (close_top (closer_lexeme closer) S p) }
     {
         match pop(&mut self.parts) {
             Some(Part::Inside(holder)) => self.close(mode, closer, holder, last),
-            _ => Err(StepFault::Syntax),
+            _ => Err(LexemeFault::Syntax),
         }
     }
 
@@ -55,7 +57,7 @@ impl Stack {
         closer: Closer,
         holder: Holder,
         last: Last,
-    ) -> Result<(), StepFault>
+    ) -> Result<(), LexemeFault>
         ensures { (S : List MachinePart) (h : MachineHolder) (p : Piece) → holder ≡ holder_of h → IsLast last p
             → IsOpen self.old S (holder_code h ++ piece_code p)
             → Agrees (Shows self.new) (leaving mode.new result) (close (closer_lexeme closer) h S p) }
@@ -73,18 +75,18 @@ impl Stack {
         mode: &mut Mode,
         closer: Closer,
         last: Last,
-    ) -> Result<(), StepFault>
+    ) -> Result<(), LexemeFault>
         ensures { (S : List MachinePart) (b : Bool) (p : Piece) → Stands self.old last S p
             → Agrees (Shows self.new) (leaving mode.new result) (close (closer_lexeme closer) (Round b) S p) }
     {
         match closer {
             Closer::Round => self.group(mode, last),
-            _ => Err(StepFault::Syntax),
+            _ => Err(LexemeFault::Syntax),
         }
     }
 
     /// What was read last, in brackets.
-    fn group(&mut self, mode: &mut Mode, last: Last) -> Result<(), StepFault>
+    fn group(&mut self, mode: &mut Mode, last: Last) -> Result<(), LexemeFault>
         ensures { (S : List MachinePart) (p : Piece) → Stands self.old last S p
             → Agrees (Shows self.new) (leaving mode.new result) (Some (Has S (with_tail Grouped p))) }
     {
@@ -111,7 +113,7 @@ impl Stack {
         mode: &mut Mode,
         closer: Closer,
         holder: Holder,
-    ) -> Result<(), StepFault>
+    ) -> Result<(), LexemeFault>
         ensures { (S : List MachinePart) (h : MachineHolder) (p : Piece) (t : Phrase) → holder ≡ holder_of h
             → as_sort (held_sort h) p ≡ Some t → IsNoBracket h → IsOpen self.old S (holder_code h ++ postfix t)
             → Agrees (Shows self.new) (leaving mode.new result) (close (closer_lexeme closer) h S p) }
@@ -180,12 +182,18 @@ impl Stack {
                 let count = one_more(count)?;
                 self.open(mode, Part::Inside(Holder::Notes(count)))
             }
-            _ => Err(StepFault::Syntax),
+            _ => Err(LexemeFault::Syntax),
         }
     }
 
     /// A tree of an operator, whose operands are on the list.
-    fn made(&mut self, mode: &mut Mode, code: Code, sort: Sort, tail: Tail) -> Result<(), StepFault>
+    fn made(
+        &mut self,
+        mode: &mut Mode,
+        code: Code,
+        sort: Sort,
+        tail: Tail,
+    ) -> Result<(), LexemeFault>
         ensures { (S : List MachinePart) (operands : List TheCode) (t : Phrase) (k : MachineTail) → postfix t ≡ operands ++ code ∷ []
             → IsOpen self.old S operands → last.Tree sort tail ≡ last_of (Is sort t k) → IsVariable k (Is sort t k)
             → Agrees (Shows self.new) (leaving mode.new result) (Some (Has S (Is sort t k))) }
@@ -196,7 +204,7 @@ impl Stack {
     }
 
     /// The lexeme `&` behind an operand.
-    pub(crate) fn and(&mut self, goal: Sort, mode: &mut Mode, last: Last) -> Result<(), StepFault>
+    pub(crate) fn and(&mut self, goal: Sort, mode: &mut Mode, last: Last) -> Result<(), LexemeFault>
         ensures { (S : List MachinePart) (p : Piece) → Stands self.old last S p
             → Agrees (Shows self.new) (leaving mode.new result) (infix_after goal And S p) }
     {
@@ -205,7 +213,7 @@ impl Stack {
     }
 
     /// It ends the term of an item, or joins two formulas.
-    fn and_top(&mut self, goal: Sort, mode: &mut Mode, last: Last) -> Result<(), StepFault>
+    fn and_top(&mut self, goal: Sort, mode: &mut Mode, last: Last) -> Result<(), LexemeFault>
         ensures { (S : List MachinePart) (p : Piece) → Stands self.old last S p
             → Agrees (Shows self.new) (leaving mode.new result) (and_top goal S p) }
     {
@@ -228,7 +236,7 @@ impl Stack {
         equations: Equations,
         name: Name,
         last: Last,
-    ) -> Result<(), StepFault>
+    ) -> Result<(), LexemeFault>
         ensures { (S : List MachinePart) (n : ℕ) (l : MachineItems) (p : Piece) → equations ≡ equations_of n l → IsLast last p
             → IsOpen self.old S (postfix_terms l ++ piece_code p)
             → Agrees (Shows self.new) (leaving mode.new result) (close (Operator And) (Evolves n l name) S p) }
@@ -239,7 +247,7 @@ impl Stack {
     }
 
     /// A formula stands before the lexeme.
-    fn join_formulas(&mut self, goal: Sort, mode: &mut Mode, last: Last) -> Result<(), StepFault>
+    fn join_formulas(&mut self, goal: Sort, mode: &mut Mode, last: Last) -> Result<(), LexemeFault>
         ensures { (S : List MachinePart) (p : Piece) → Stands self.old last S p
             → Agrees (Shows self.new) (leaving mode.new result) (formulas_joined goal S p) }
     {

@@ -11,7 +11,7 @@ ghost use Rattle.dlk_reader.specs.Ends.{either_sort, at_comma, IsEither, ShowsCo
 use crate::lexeme::Lexeme;
 use crate::parts::{Last, Mode};
 use crate::stack::{Stack, settle};
-use crate::stop::StepFault;
+use crate::stop::LexemeFault;
 use dlk_tree::Sort;
 use std::alloc::Global;
 
@@ -30,12 +30,12 @@ impl Stack {
     /// # Errors
     ///
     /// `Syntax` comes exactly where something is open or what was read last is of another sort, and `Memory` where memory ran out.
-    pub fn settle_whole(&mut self, goal: Sort, last: Last) -> Result<(), StepFault>
+    pub fn settle_whole(&mut self, goal: Sort, last: Last) -> Result<(), LexemeFault>
         ensures { (S : List MachinePart) (p : Piece) → Stands self.old last S p
             → Agrees (λ _ t. IsWhole self.new t) result (whole goal S p) }
     {
         if !self.parts.is_empty() {
-            return Err(StepFault::Syntax);
+            return Err(LexemeFault::Syntax);
         }
         settle(&mut self.out, last, goal)
     }
@@ -45,12 +45,12 @@ impl Stack {
     /// # Errors
     ///
     /// `Syntax` comes exactly where what was read is none of that sort, and `Memory` where memory ran out.
-    pub fn end(&mut self, goal: Sort, mode: Mode) -> Result<(), StepFault>
+    pub fn end(&mut self, goal: Sort, mode: Mode) -> Result<(), LexemeFault>
         ensures { (x : State) → Shows self.old mode x
             → Agrees (λ _ t. IsWhole self.new t) result (ended goal x) }
     {
         let Mode::Has(last) = mode else {
-            return Err(StepFault::Syntax);
+            return Err(LexemeFault::Syntax);
         };
         let last = self.reduce(0, last)?;
         self.settle_whole(goal, last)
@@ -61,12 +61,12 @@ impl Stack {
     /// # Errors
     ///
     /// `Syntax` comes exactly where what was read is neither, and `Memory` where memory ran out.
-    pub fn end_either(&mut self, mode: Mode) -> Result<(), StepFault>
+    pub fn end_either(&mut self, mode: Mode) -> Result<(), LexemeFault>
         ensures { (x : State) → Shows self.old mode x
             → Agrees (λ _ t. IsWhole self.new t) result (term_or_formula x) }
     {
         let Mode::Has(last) = mode else {
-            return Err(StepFault::Syntax);
+            return Err(LexemeFault::Syntax);
         };
         let last = self.reduce(0, last)?;
         let sort = either_sort(&last);
@@ -78,7 +78,7 @@ impl Stack {
     /// # Errors
     ///
     /// `Syntax` comes exactly where something is open or a program was read last, and `Memory` where memory ran out.
-    pub fn settle_either(&mut self, last: Last) -> Result<Sort, StepFault>
+    pub fn settle_either(&mut self, last: Last) -> Result<Sort, LexemeFault>
         ensures { (S : List MachinePart) (p : Piece) → Stands self.old last S p
             → Agrees (IsEither self.new p) result (whole (either_sort p) S p) }
     {
@@ -92,7 +92,7 @@ impl Stack {
     /// # Errors
     ///
     /// `Syntax` comes exactly where what stands before the comma can not be closed, or no text goes on with it, and `Memory` where memory ran out.
-    pub fn at_comma(&mut self, alloc: Global, goal: Sort, mode: Mode) -> Result<Comma, StepFault>
+    pub fn at_comma(&mut self, alloc: Global, goal: Sort, mode: Mode) -> Result<Comma, LexemeFault>
         ensures { (x : State) → Shows self.old mode x
             → Agrees (ShowsComma self.new) result (at_comma goal x) }
     {

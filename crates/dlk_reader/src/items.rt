@@ -15,12 +15,12 @@ use crate::kept::Kept;
 use crate::lexeme::Lexeme;
 use crate::parts::{Equations, Holder, Last, Mode, Part, Tail};
 use crate::stack::Stack;
-use crate::stop::StepFault;
+use crate::stop::LexemeFault;
 use dlk_grammar::Infix;
 use dlk_tree::{Items, Kind, Name, OdeItem, Op, Sort, Sym};
 
 /// One item more.
-pub(crate) fn add_item(equations: Equations, item: OdeItem) -> Result<Equations, StepFault>
+pub(crate) fn add_item(equations: Equations, item: OdeItem) -> Result<Equations, LexemeFault>
     ensures { (n : ℕ) (l : MachineItems) (i : Item) → equations ≡ equations_of n l → item ≡ item_of i
         → Agrees (λ e m. e ≡ equations_of n m) result (Some (add l i)) }
 {
@@ -38,7 +38,7 @@ pub(crate) fn add_constant(
     equations: Equations,
     name: Name,
     taboo: Option<Name>,
-) -> Result<Equations, StepFault>
+) -> Result<Equations, LexemeFault>
     ensures { (n : ℕ) (l : MachineItems) → equations ≡ equations_of n l
         → Agrees (λ e m. e ≡ equations_of n m) result (Some (add l (Flow name (space_of taboo)))) }
 {
@@ -57,7 +57,7 @@ impl Stack {
         &mut self,
         mode: &mut Mode,
         equations: Equations,
-    ) -> Result<(), StepFault>
+    ) -> Result<(), LexemeFault>
         ensures { (S : List MachinePart) (n : ℕ) (l : MachineItems) → equations ≡ equations_of n l → IsOpen self.old S (postfix_terms l)
             → Agrees (Shows self.new) (leaving mode.new result) (items_step S n l CloseBrace) }
     {
@@ -76,7 +76,7 @@ impl Stack {
         mode: &mut Mode,
         equations: Equations,
         lexeme: Lexeme,
-    ) -> Result<(), StepFault>
+    ) -> Result<(), LexemeFault>
         ensures { (S : List MachinePart) (n : ℕ) (l : MachineItems) → equations ≡ equations_of n l → IsOpen self.old S (postfix_terms l)
             → Agrees (Shows self.new) (leaving mode.new result) (items_step S n l (seen lexeme)) }
     {
@@ -87,7 +87,7 @@ impl Stack {
             }
             Lexeme::Op(Infix::And) => self.open(mode, Part::Inside(Holder::Domain(equations))),
             Lexeme::CloseBrace => self.end_system(mode, equations),
-            _ => Err(StepFault::Syntax),
+            _ => Err(LexemeFault::Syntax),
         }
     }
 
@@ -98,7 +98,7 @@ impl Stack {
         equations: Equations,
         name: Name,
         lexeme: Lexeme,
-    ) -> Result<(), StepFault>
+    ) -> Result<(), LexemeFault>
         ensures { (S : List MachinePart) (n : ℕ) (l : MachineItems) → equations ≡ equations_of n l → IsOpen self.old S (postfix_terms l)
             → Agrees (Shows self.new) (leaving mode.new result) (item_name_step S n l name (seen lexeme)) }
     {
@@ -125,7 +125,7 @@ impl Stack {
         equations: Equations,
         name: Name,
         lexeme: Lexeme,
-    ) -> Result<(), StepFault>
+    ) -> Result<(), LexemeFault>
         ensures agrees { (S : List MachinePart) (n : ℕ) (l : MachineItems) → equations ≡ equations_of n l → IsOpen self.old S (postfix_terms l)
             → Agrees (Shows self.new) (leaving mode.new result) (item_prime_step S n l name (seen lexeme)) }
         ensures owed { (S : List MachinePart) (n : ℕ) (l : MachineItems) → equations ≡ equations_of n l → IsOpen self.old S (postfix_terms l)
@@ -136,7 +136,7 @@ impl Stack {
                 mode,
                 Part::Inside(Holder::Evolves(equations, name)),
             ),
-            _ => Err(StepFault::Syntax),
+            _ => Err(LexemeFault::Syntax),
         }
     }
 }
@@ -148,7 +148,7 @@ pub(crate) fn item_bar_name_step(
     name: Name,
     taboo: Name,
     lexeme: Lexeme,
-) -> Result<(), StepFault>
+) -> Result<(), LexemeFault>
     ensures { (k : TheStack) (S : List MachinePart) (n : ℕ) (l : MachineItems) → equations ≡ equations_of n l → IsOpen k S (postfix_terms l)
         → Agrees (Shows k) (leaving mode.new result) (item_bar_name_step S n l name taboo (seen lexeme)) }
 {
@@ -157,6 +157,6 @@ pub(crate) fn item_bar_name_step(
             mode.set(Mode::ItemEnds(add_constant(equations, name, Some(taboo))?));
             Ok(())
         }
-        _ => Err(StepFault::Syntax),
+        _ => Err(LexemeFault::Syntax),
     }
 }

@@ -4,7 +4,7 @@ ghost use Rattle.dlk_grammar.specs.Lexemes.{lexeme_of, lexeme_of_mark};
 ghost use Rattle.dlk_reader.specs.Shows.{IsNameOf, IsSeen, seen};
 
 use crate::halves::Halves;
-use crate::stop::StepFault;
+use crate::stop::LexemeFault;
 use dlk_grammar::{Infix, Mark, TokenKind};
 use dlk_tree::{Name, Num};
 
@@ -49,12 +49,12 @@ impl Lexeme {
     /// # Errors
     ///
     /// `Syntax` comes exactly where it is no name.
-    pub fn into_name(self) -> Result<Name, StepFault>
+    pub fn into_name(self) -> Result<Name, LexemeFault>
         ensures { IsNameOf (seen self) result }
     {
         match self {
             Lexeme::Name(_, name) => Ok(name),
-            _ => Err(StepFault::Syntax),
+            _ => Err(LexemeFault::Syntax),
         }
     }
 }

@@ -24,4 +24,4 @@ pub use lexeme::Lexeme;
 pub use parts::{Equations, Last, Mode, Tail};
 pub use reading::{LexemeReader, read};
 pub use stack::{Stack, one_more, variable};
-pub use stop::{StepFault, Stop};
+pub use stop::{LexemeFault, Stop};

@@ -6,7 +6,8 @@ ghost use Rattle.dlk_reader.specs.declared.parts.Tail.TheVariants as tail;
 ghost use Rattle.dlk_reader.specs.declared.parts.Last.TheVariants as last;
 ghost use Rattle.dlk_reader.specs.declared.parts.Mode.TheVariants as mode;
 ghost use Rattle.dlk_reader.specs.declared.stack.Stack.{Stack as TheStack};
-ghost use Rattle.dlk_machine.specs.Machine.{when, Part as MachinePart, Quantifier as MachineQuantifier, Piece, Done, Grouped, Bare, Is, Wants, Has, Binds, fits, start_operand, after_operand, primed, name_after, prime_after, call_step, bars_name_step, bind_step};
+ghost use Rattle.dlk_machine.specs.Machine.{when, Part as MachinePart, Quantifier as MachineQuantifier, Piece, Done, Grouped, Bare, Is, Wants, Has, Binds};
+ghost use Rattle.dlk_machine.specs.Machine.{fits, start_operand, after_operand, primed, name_after, prime_after, call_step, bars_name_step, bind_step};
 ghost use Rattle.dlk_tree.specs.declared.op.Sort.TheVariants as sort_of;
 ghost use Rattle.dlk_reader.specs.declared.code.Code.TheVariants as code;
 ghost use Rattle.dlk_reader.specs.Codes.{postfix};
@@ -19,7 +20,7 @@ use crate::kept::Kept;
 use crate::lexeme::Lexeme;
 use crate::parts::{Between, Head, Holder, Last, Modality, Mode, Part, Prefix, Quantifier, Tail};
 use crate::stack::{Stack, one_more, settle, variable};
-use crate::stop::StepFault;
+use crate::stop::LexemeFault;
 use crate::tables::{level, operand_sort, result_sort};
 use dlk_grammar::Infix;
 use dlk_tree::{Name, Op, Sort};
@@ -27,7 +28,7 @@ use std::alloc::Global;
 
 impl Stack {
     /// Opens a part.
-    pub(crate) fn open(&mut self, mode: &mut Mode, part: Part) -> Result<(), StepFault>
+    pub(crate) fn open(&mut self, mode: &mut Mode, part: Part) -> Result<(), LexemeFault>
         ensures { (S : List MachinePart) (e : MachinePart) → part ≡ shape e → IsOpen self.old S (part_code e)
             → Agrees (Shows self.new) (leaving mode.new result) (Some (Wants (e ∷ S))) }
     {
@@ -37,21 +38,21 @@ impl Stack {
     }
 
     /// Opens a part of a formula.
-    fn open_formula(&mut self, goal: Sort, mode: &mut Mode, part: Part) -> Result<(), StepFault>
+    fn open_formula(&mut self, goal: Sort, mode: &mut Mode, part: Part) -> Result<(), LexemeFault>
         ensures agrees { (S : List MachinePart) (e : MachinePart) → part ≡ shape e → IsOpen self.old S (part_code e)
             → Agrees (Shows self.new) (leaving mode.new result) (when (fits goal sort_of.Formula S) (Some (Wants (e ∷ S)))) }
         ensures owed { (S : List MachinePart) (e : MachinePart) → part ≡ shape e → IsOpen self.old S (part_code e)
             → Owes (leaving mode.new result) (when (fits goal sort_of.Formula S) (Some (Wants (e ∷ S)))) }
     {
         if !self.fits(goal, Sort::Formula) {
-            return Err(StepFault::Syntax);
+            return Err(LexemeFault::Syntax);
         }
         self.open(mode, part)
     }
 
     /// A tree of one operator.
     #[inline(always)]
-    pub(crate) fn leaf(&mut self, mode: &mut Mode, op: Op, sort: Sort) -> Result<(), StepFault>
+    pub(crate) fn leaf(&mut self, mode: &mut Mode, op: Op, sort: Sort) -> Result<(), LexemeFault>
         ensures { (S : List MachinePart) (t : Phrase) → postfix t ≡ code.Operator op ∷ [] → IsOpen self.old S []
             → Agrees (Shows self.new) (leaving mode.new result) (Some (Has S (Is sort t Done))) }
     {
@@ -60,14 +61,14 @@ impl Stack {
         Ok(())
     }
 
-    fn leaf_formula(&mut self, goal: Sort, mode: &mut Mode, op: Op) -> Result<(), StepFault>
+    fn leaf_formula(&mut self, goal: Sort, mode: &mut Mode, op: Op) -> Result<(), LexemeFault>
         ensures agrees { (S : List MachinePart) (t : Phrase) → postfix t ≡ code.Operator op ∷ [] → IsOpen self.old S []
             → Agrees (Shows self.new) (leaving mode.new result) (when (fits goal sort_of.Formula S) (Some (Has S (Is sort_of.Formula t Done)))) }
         ensures owed { (S : List MachinePart) (t : Phrase) → postfix t ≡ code.Operator op ∷ [] → IsOpen self.old S []
             → Owes (leaving mode.new result) (when (fits goal sort_of.Formula S) (Some (Has S (Is sort_of.Formula t Done)))) }
     {
         if !self.fits(goal, Sort::Formula) {
-            return Err(StepFault::Syntax);
+            return Err(LexemeFault::Syntax);
         }
         self.leaf(mode, op, Sort::Formula)
     }
@@ -77,14 +78,14 @@ impl Stack {
         goal: Sort,
         mode: &mut Mode,
         quantifier: Quantifier,
-    ) -> Result<(), StepFault>
+    ) -> Result<(), LexemeFault>
         ensures agrees { (S : List MachinePart) (q : MachineQuantifier) → quantifier ≡ quantifier_of q → IsOpen self.old S []
             → Agrees (Shows self.new) (leaving mode.new result) (when (fits goal sort_of.Formula S) (Some (Binds S q))) }
         ensures owed { (S : List MachinePart) (q : MachineQuantifier) → quantifier ≡ quantifier_of q → IsOpen self.old S []
             → Owes (leaving mode.new result) (when (fits goal sort_of.Formula S) (Some (Binds S q))) }
     {
         if !self.fits(goal, Sort::Formula) {
-            return Err(StepFault::Syntax);
+            return Err(LexemeFault::Syntax);
         }
         mode.set(Mode::Binds(quantifier));
         Ok(())
@@ -97,7 +98,7 @@ impl Stack {
         goal: Sort,
         mode: &mut Mode,
         lexeme: Lexeme,
-    ) -> Result<(), StepFault>
+    ) -> Result<(), LexemeFault>
         ensures agrees { (S : List MachinePart) → IsOpen self.old S []
             → Agrees (Shows self.new) (leaving mode.new result) (start_operand goal S (seen lexeme)) }
         ensures owed { (S : List MachinePart) → IsOpen self.old S []
@@ -129,19 +130,24 @@ impl Stack {
             Lexeme::Op(Infix::Less) => {
                 self.open_formula(goal, mode, Part::Inside(Holder::In(Modality::InDia)))
             }
-            _ => Err(StepFault::Syntax),
+            _ => Err(LexemeFault::Syntax),
         }
     }
 
     /// An operator behind its left operand, which is whole.
     #[inline(always)]
-    pub(crate) fn left(&mut self, goal: Sort, between: Between, last: Last) -> Result<(), StepFault>
+    pub(crate) fn left(
+        &mut self,
+        goal: Sort,
+        between: Between,
+        last: Last,
+    ) -> Result<(), LexemeFault>
         ensures { (S : List MachinePart) (p : Piece) → Stands self.old last S p
             → Agrees (λ _ T. IsOpen self.new T []) result (left_opened goal (said between) S p) }
     {
         settle(&mut self.out, last, operand_sort(between))?;
         if !self.fits(goal, result_sort(between)) {
-            return Err(StepFault::Syntax);
+            return Err(LexemeFault::Syntax);
         }
         Ok(self.parts.push(Part::Left(between))?)
     }
@@ -153,7 +159,7 @@ impl Stack {
         goal: Sort,
         between: Between,
         last: Last,
-    ) -> Result<(), StepFault>
+    ) -> Result<(), LexemeFault>
         ensures { (S : List MachinePart) (p : Piece) → Stands self.old last S p
             → Agrees (λ _ T. IsOpen self.new T []) result (after_operand goal (said between) S p) }
     {
@@ -168,7 +174,7 @@ impl Stack {
         mode: &mut Mode,
         last: Last,
         lexeme: Lexeme,
-    ) -> Result<(), StepFault>
+    ) -> Result<(), LexemeFault>
         ensures agrees { (S : List MachinePart) (p : Piece) → Stands self.old last S p
             → Agrees (Shows self.new) (leaving mode.new result) (name_after goal S (seen lexeme) (tail_of p)) }
         ensures owed { (S : List MachinePart) (p : Piece) → Stands self.old last S p
@@ -176,8 +182,8 @@ impl Stack {
     {
         match last {
             Last::Name { at, name } => self.name_step(goal, mode, at, name, lexeme),
-            Last::Tree(_, _) => Err(StepFault::Syntax),
-            Last::Symbol { .. } => Err(StepFault::Syntax),
+            Last::Tree(_, _) => Err(LexemeFault::Syntax),
+            Last::Symbol { .. } => Err(LexemeFault::Syntax),
         }
     }
 
@@ -188,7 +194,7 @@ impl Stack {
         at: usize,
         name: Name,
         lexeme: Lexeme,
-    ) -> Result<(), StepFault>
+    ) -> Result<(), LexemeFault>
         ensures agrees { (S : List MachinePart) → IsOpen self.old S []
             → Agrees (Shows self.new) (leaving mode.new result) (name_after goal S (seen lexeme) (Bare at name)) }
         ensures owed { (S : List MachinePart) → IsOpen self.old S []
@@ -212,12 +218,12 @@ impl Stack {
                 mode,
                 Part::Inside(Holder::InContext(name)),
             ),
-            _ => Err(StepFault::Syntax),
+            _ => Err(LexemeFault::Syntax),
         }
     }
 
     /// A prime behind a name or a bracket.
-    pub(crate) fn prime_after(&mut self, mode: &mut Mode, last: Last) -> Result<(), StepFault>
+    pub(crate) fn prime_after(&mut self, mode: &mut Mode, last: Last) -> Result<(), LexemeFault>
         ensures agrees { (S : List MachinePart) (p : Piece) → Stands self.old last S p
             → Agrees (Shows self.new) (leaving mode.new result) (prime_after S p (tail_of p)) }
         ensures owed { (S : List MachinePart) (p : Piece) → Stands self.old last S p
@@ -243,13 +249,13 @@ impl Stack {
                 }));
                 Ok(())
             }
-            Last::Tree(_, _) => Err(StepFault::Syntax),
-            Last::Symbol { .. } => Err(StepFault::Syntax),
+            Last::Tree(_, _) => Err(LexemeFault::Syntax),
+            Last::Symbol { .. } => Err(LexemeFault::Syntax),
         }
     }
 
     /// A prime behind a tree in brackets. No program stands in them.
-    fn prime(&mut self, mode: &mut Mode, sort: Sort) -> Result<(), StepFault>
+    fn prime(&mut self, mode: &mut Mode, sort: Sort) -> Result<(), LexemeFault>
         ensures { (S : List MachinePart) (t : Phrase) → IsOpen self.old S (postfix t)
             → Agrees (Shows self.new) (leaving mode.new result) (Some (Has S (primed (Is sort t Grouped)))) }
     {
@@ -275,7 +281,7 @@ impl Stack {
         at: usize,
         name: Name,
         lexeme: Lexeme,
-    ) -> Result<(), StepFault>
+    ) -> Result<(), LexemeFault>
         ensures { (S : List MachinePart) → IsOpen self.old S []
             → Agrees (Shows self.new) (leaving mode.new result) (call_step goal S at name (seen lexeme)) }
     {
@@ -299,7 +305,7 @@ impl Stack {
         mode: &mut Mode,
         quantifier: Quantifier,
         lexeme: Lexeme,
-    ) -> Result<(), StepFault>
+    ) -> Result<(), LexemeFault>
         ensures agrees { (S : List MachinePart) (q : MachineQuantifier) → quantifier ≡ quantifier_of q → IsOpen self.old S []
             → Agrees (Shows self.new) (leaving mode.new result) (bind_step S q (seen lexeme)) }
         ensures owed { (S : List MachinePart) (q : MachineQuantifier) → quantifier ≡ quantifier_of q → IsOpen self.old S []
@@ -311,7 +317,7 @@ impl Stack {
 }
 
 /// A unit symbol was read.
-fn any(alloc: Global, name: Name, taboo: Option<Name>) -> Result<Mode, StepFault>
+fn any(alloc: Global, name: Name, taboo: Option<Name>) -> Result<Mode, LexemeFault>
     ensures { Agrees (λ m n. m ≡ n) result (Some (mode.Has (last.Symbol (head.Any name taboo) 0 tail.Done))) }
 {
     Ok(Mode::Has(Last::Symbol {
@@ -328,7 +334,7 @@ pub(crate) fn bars_name_step(
     name: Name,
     taboo: Name,
     lexeme: Lexeme,
-) -> Result<(), StepFault>
+) -> Result<(), LexemeFault>
     ensures agrees { (k : TheStack) (S : List MachinePart) → IsOpen k S []
         → Agrees (Shows k) (leaving mode.new result) (bars_name_step S name taboo (seen lexeme)) }
     ensures owed { (k : TheStack) (S : List MachinePart) → IsOpen k S []
@@ -339,6 +345,6 @@ pub(crate) fn bars_name_step(
             mode.set(any(alloc, name, Some(taboo))?);
             Ok(())
         }
-        _ => Err(StepFault::Syntax),
+        _ => Err(LexemeFault::Syntax),
     }
 }

@@ -4,7 +4,7 @@ ghost use Rattle.dlk_grammar.specs.Phrases.{no_items};
 ghost use Rattle.dlk_reader.specs.Shows.{equations_of, Agrees};
 
 use crate::kept::Kept;
-use crate::stop::StepFault;
+use crate::stop::LexemeFault;
 use dlk_grammar::Infix;
 use dlk_tree::{Items, Name, Sort};
 use std::alloc::Global;
@@ -54,7 +54,7 @@ impl Equations {
     /// # Errors
     ///
     /// `Memory` comes where memory ran out.
-    pub fn new(alloc: Global, at: usize) -> Result<Equations, StepFault>
+    pub fn new(alloc: Global, at: usize) -> Result<Equations, LexemeFault>
         ensures { Agrees (λ e x. e ≡ x) result (Some (equations_of at no_items)) }
     {
         Ok(Equations {

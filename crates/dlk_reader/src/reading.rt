@@ -6,7 +6,7 @@ ghost use Rattle.dlk_reader.specs.Shows.{seen};
 ghost use Rattle.dlk_reader.specs.Outcomes.{Outcome, Steps, leaving, Ends, EndsAt, stop_at, ReadsTokens, ReadsUp, ReadsAll};
 
 use crate::lexeme::{Lexeme, lexeme_at};
-use crate::stop::{StepFault, Stop};
+use crate::stop::{LexemeFault, Stop};
 use dlk_lex::Source;
 use std::alloc::Global;
 
@@ -23,7 +23,7 @@ pub trait LexemeReader: Sized + Drop {
     /// # Errors
     ///
     /// `Syntax` comes exactly where no text goes on with the lexeme, and `Memory` where memory ran out.
-    fn step(&mut self, alloc: Global, lexeme: Lexeme) -> Result<(), StepFault>
+    fn step(&mut self, alloc: Global, lexeme: Lexeme) -> Result<(), LexemeFault>
         ensures { Steps comes self.old (seen lexeme) (leaving self.new result) };
 
     /// What was read, at the end of the lexemes.
@@ -31,17 +31,17 @@ pub trait LexemeReader: Sized + Drop {
     /// # Errors
     ///
     /// `Syntax` comes exactly where what was read is no whole text, and `Memory` where memory ran out.
-    fn end(self) -> Result<Self::Output, StepFault>
+    fn end(self) -> Result<Self::Output, LexemeFault>
         ensures { Ends comes self result };
 }
 
 /// A fault at the token that begins at this byte.
-fn stop(fault: StepFault, at: usize) -> Stop
+fn stop(fault: LexemeFault, at: usize) -> Stop
     ensures { result ≡ stop_at fault at }
 {
     match fault {
-        StepFault::Memory => Stop::Memory,
-        StepFault::Syntax => Stop::Syntax { at },
+        LexemeFault::Memory => Stop::Memory,
+        LexemeFault::Syntax => Stop::Syntax { at },
     }
 }
 

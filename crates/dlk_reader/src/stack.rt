@@ -4,11 +4,12 @@ ghost use Rattle.dlk_grammar.specs.Phrases.{Variable, Head as MachineHead};
 ghost use Rattle.dlk_machine.specs.Machine.{Part as MachinePart, Tail as MachineTail, Piece, Symbol, as_sort, join, reduce, fits, place};
 ghost use Rattle.dlk_reader.specs.declared.code.Code.{Code as TheCode};
 ghost use Rattle.dlk_reader.specs.Codes.{postfix};
-ghost use Rattle.dlk_reader.specs.Shows.{shape, shapes, part_code, piece_code, head_of, head_code, primes_code, symbol_of, unit_code, IsLast, IsOpen, Stands, Agrees, Reduces, Pops, TakesAbove, Writes, Joins};
+ghost use Rattle.dlk_reader.specs.Shows.{shape, shapes, part_code, piece_code, head_of, head_code, primes_code, symbol_of, unit_code, IsLast, IsOpen, Stands};
+ghost use Rattle.dlk_reader.specs.Shows.{Agrees, Reduces, Pops, TakesAbove, Writes, Joins};
 
 use crate::code::Code;
 use crate::parts::{Head, Last, Part, Tail};
-use crate::stop::StepFault;
+use crate::stop::LexemeFault;
 use crate::tables::{
     allows, operand_sort, operator, prefix_operator, prefix_sort, result_sort, sort_in, wanted,
 };
@@ -29,12 +30,12 @@ pub struct Stack {
 /// # Errors
 ///
 /// `Memory` comes where no more fit into memory.
-pub fn one_more(count: usize) -> Result<usize, StepFault>
+pub fn one_more(count: usize) -> Result<usize, LexemeFault>
     ensures { Agrees (λ m n. m ≡ n) result (Some (count + 1)) }
 {
     match count.checked_add(1) {
         Some(more) => Ok(more),
-        None => Err(StepFault::Memory),
+        None => Err(LexemeFault::Memory),
     }
 }
 
@@ -72,7 +73,7 @@ pub(crate) fn place(goal: Sort, parts: &[Part]) -> Sort
 }
 
 /// Writes the operator of a symbol, as a predicate's where it holds.
-fn write_symbol(out: &mut Vec<Code>, head: Head, holds: bool) -> Result<(), StepFault>
+fn write_symbol(out: &mut Vec<Code>, head: Head, holds: bool) -> Result<(), LexemeFault>
     ensures { (h : MachineHead) (before : List TheCode) → head ≡ head_of h → out.old.items ≡ before ++ head_code h
         → Agrees (λ _ t. Writes out.new.items before t) result (Some (symbol_of holds h)) }
 {
@@ -110,7 +111,7 @@ fn unit_symbol(name: Name, taboo: Option<Name>, holds: bool) -> Code
 }
 
 /// Writes the operators of so many primes.
-fn write_primes(out: &mut Vec<Code>, holds: bool, primes: usize) -> Result<(), StepFault>
+fn write_primes(out: &mut Vec<Code>, holds: bool, primes: usize) -> Result<(), LexemeFault>
     ensures { Agrees (λ _ c. out.new.items ≡ out.old.items ++ c) result (Some (primes_code holds primes)) }
 {
     for _ in 0..primes {
@@ -126,7 +127,7 @@ fn settle_symbol(
     head: Head,
     primes: usize,
     sort: Sort,
-) -> Result<(), StepFault>
+) -> Result<(), LexemeFault>
     ensures { (h : MachineHead) (k : MachineTail) (before : List TheCode) → head ≡ head_of h → out.old.items ≡ before ++ head_code h
         → Agrees (λ _ t. Writes out.new.items before t) result (as_sort sort (Symbol h primes k)) }
 {
@@ -139,13 +140,13 @@ fn settle_symbol(
             write_symbol(out, head, true)?;
             write_primes(out, true, primes)
         }
-        Sort::Program => Err(StepFault::Syntax),
+        Sort::Program => Err(LexemeFault::Syntax),
     }
 }
 
 /// Writes the operators of what was read last, once its sort is known.
 #[inline(always)]
-pub(crate) fn settle(out: &mut Vec<Code>, last: Last, sort: Sort) -> Result<(), StepFault>
+pub(crate) fn settle(out: &mut Vec<Code>, last: Last, sort: Sort) -> Result<(), LexemeFault>
     ensures { (p : Piece) (before : List TheCode) → IsLast last p → out.old.items ≡ before ++ piece_code p
         → Agrees (λ _ t. Writes out.new.items before t) result (as_sort sort p) }
 {
@@ -153,10 +154,10 @@ pub(crate) fn settle(out: &mut Vec<Code>, last: Last, sort: Sort) -> Result<(), 
         (Last::Tree(Sort::Term, _), Sort::Term) => Ok(()),
         (Last::Tree(Sort::Formula, _), Sort::Formula) => Ok(()),
         (Last::Tree(Sort::Program, _), Sort::Program) => Ok(()),
-        (Last::Tree(_, _), _) => Err(StepFault::Syntax),
+        (Last::Tree(_, _), _) => Err(LexemeFault::Syntax),
         (Last::Name { at: _, name }, Sort::Term) => Ok(out.push(variable(name, false))?),
-        (Last::Name { .. }, Sort::Formula) => Err(StepFault::Syntax),
-        (Last::Name { .. }, Sort::Program) => Err(StepFault::Syntax),
+        (Last::Name { .. }, Sort::Formula) => Err(LexemeFault::Syntax),
+        (Last::Name { .. }, Sort::Program) => Err(LexemeFault::Syntax),
         (Last::Symbol { head, primes, .. }, sort) => {
             settle_symbol(out, head.into_inner(), primes, sort)
         }
@@ -172,7 +173,7 @@ pub fn variable(name: Name, primed: bool) -> Code
 
 /// Closes an open part with its operand.
 #[inline(always)]
-fn join(out: &mut Vec<Code>, part: Part, last: Last) -> Result<Last, StepFault>
+fn join(out: &mut Vec<Code>, part: Part, last: Last) -> Result<Last, LexemeFault>
     ensures { (e : MachinePart) (p : Piece) (before : List TheCode) → part ≡ shape e → IsLast last p → out.old.items ≡ before ++ (part_code e ++ piece_code p)
         → Agrees (Joins out.new.items before) result (join e p) }
 {
@@ -188,7 +189,7 @@ fn join(out: &mut Vec<Code>, part: Part, last: Last) -> Result<Last, StepFault>
             out.push(Code::Operator(prefix_operator(prefix)))?;
             Ok(Last::Tree(sort, Tail::Done))
         }
-        Part::Inside(_) => Err(StepFault::Syntax),
+        Part::Inside(_) => Err(LexemeFault::Syntax),
     }
 }
 
@@ -209,7 +210,7 @@ impl Stack {
     ///
     /// `Syntax` comes exactly where an operand is of another sort, and `Memory` where memory ran out.
     #[inline(always)]
-    pub fn reduce(&mut self, level: u8, last: Last) -> Result<Last, StepFault>
+    pub fn reduce(&mut self, level: u8, last: Last) -> Result<Last, LexemeFault>
         ensures { (S : List MachinePart) (p : Piece) → Stands self.old last S p
             → Agrees (Reduces self.new) result (reduce level S p) }
     {

@@ -3,7 +3,9 @@ ghost use Rattle.std.specs.Prelude.{◌≡◌, List, [], ◌∷◌, Some};
 ghost use Rattle.dlk_grammar.specs.Phrases.{Phrase, Const};
 ghost use Rattle.dlk_reader.specs.declared.stack.Stack.{Stack as TheStack};
 ghost use Rattle.dlk_reader.specs.declared.code.Code.TheVariants as code;
-ghost use Rattle.dlk_machine.specs.Machine.{Part as MachinePart, Inside, InBrace, Piece, start_statement, statement_step, statement_prime_step, statement_gets_step, statement_star_step, opens_step, opens_name_step, opens_prime_step, star_after, invariant_after, semi_after, invariants_step};
+ghost use Rattle.dlk_machine.specs.Machine.{Part as MachinePart, Inside, InBrace, Piece, start_statement, statement_step, statement_prime_step};
+ghost use Rattle.dlk_machine.specs.Machine.{statement_gets_step, statement_star_step, opens_step, opens_name_step, opens_prime_step, star_after};
+ghost use Rattle.dlk_machine.specs.Machine.{invariant_after, semi_after, invariants_step};
 ghost use Rattle.dlk_reader.specs.Codes.{postfix};
 ghost use Rattle.dlk_reader.specs.Outcomes.{leaving};
 ghost use Rattle.dlk_reader.specs.Owed.{Owes};
@@ -13,7 +15,7 @@ use crate::code::Code;
 use crate::lexeme::Lexeme;
 use crate::parts::{Equations, Holder, Last, Mode, Part, Tail};
 use crate::stack::Stack;
-use crate::stop::StepFault;
+use crate::stop::LexemeFault;
 use dlk_grammar::Infix;
 use dlk_tree::{Kind, Name, Op, Sort, Sym};
 use std::alloc::Global;
@@ -24,7 +26,7 @@ impl Stack {
         &mut self,
         mode: &mut Mode,
         lexeme: Lexeme,
-    ) -> Result<(), StepFault>
+    ) -> Result<(), LexemeFault>
         ensures agrees { (S : List MachinePart) → IsOpen self.old S []
             → Agrees (Shows self.new) (leaving mode.new result) (start_statement S (seen lexeme)) }
         ensures owed { (S : List MachinePart) → IsOpen self.old S []
@@ -40,7 +42,7 @@ impl Stack {
                 mode.set(Mode::Opens(at));
                 Ok(())
             }
-            _ => Err(StepFault::Syntax),
+            _ => Err(LexemeFault::Syntax),
         }
     }
 
@@ -50,7 +52,7 @@ impl Stack {
         mode: &mut Mode,
         name: Name,
         lexeme: Lexeme,
-    ) -> Result<(), StepFault>
+    ) -> Result<(), LexemeFault>
         ensures agrees { (S : List MachinePart) → IsOpen self.old S []
             → Agrees (Shows self.new) (leaving mode.new result) (statement_step S name (seen lexeme)) }
         ensures owed { (S : List MachinePart) → IsOpen self.old S []
@@ -66,7 +68,7 @@ impl Stack {
                 mode.set(Mode::StartsPrime(name));
                 Ok(())
             }
-            _ => Err(StepFault::Syntax),
+            _ => Err(LexemeFault::Syntax),
         }
     }
 
@@ -76,7 +78,7 @@ impl Stack {
         mode: &mut Mode,
         name: Name,
         lexeme: Lexeme,
-    ) -> Result<(), StepFault>
+    ) -> Result<(), LexemeFault>
         ensures agrees { (S : List MachinePart) → IsOpen self.old S []
             → Agrees (Shows self.new) (leaving mode.new result) (statement_prime_step S name (seen lexeme)) }
         ensures owed { (S : List MachinePart) → IsOpen self.old S []
@@ -84,7 +86,7 @@ impl Stack {
     {
         match lexeme {
             Lexeme::Gets => self.open(mode, Part::Inside(Holder::Assigns { name, primed: true })),
-            _ => Err(StepFault::Syntax),
+            _ => Err(LexemeFault::Syntax),
         }
     }
 
@@ -95,7 +97,7 @@ impl Stack {
         mode: &mut Mode,
         name: Name,
         lexeme: Lexeme,
-    ) -> Result<(), StepFault>
+    ) -> Result<(), LexemeFault>
         ensures { (S : List MachinePart) → IsOpen self.old S []
             → Agrees (Shows self.new) (leaving mode.new result) (statement_gets_step goal S name (seen lexeme)) }
     {
@@ -117,7 +119,7 @@ impl Stack {
         mode: &mut Mode,
         name: Name,
         lexeme: Lexeme,
-    ) -> Result<(), StepFault>
+    ) -> Result<(), LexemeFault>
         ensures agrees { (S : List MachinePart) → IsOpen self.old S []
             → Agrees (Shows self.new) (leaving mode.new result) (statement_star_step S name (seen lexeme)) }
         ensures owed { (S : List MachinePart) → IsOpen self.old S []
@@ -125,12 +127,12 @@ impl Stack {
     {
         match lexeme {
             Lexeme::Semi => self.leaf(mode, Op::Any(name), Sort::Program),
-            _ => Err(StepFault::Syntax),
+            _ => Err(LexemeFault::Syntax),
         }
     }
 
     /// A program stands in a brace.
-    fn open_brace(&mut self) -> Result<(), StepFault>
+    fn open_brace(&mut self) -> Result<(), LexemeFault>
         ensures { (S : List MachinePart) → IsOpen self.old S []
             → Agrees (λ _ T. IsOpen self.new T []) result (Some (Inside InBrace ∷ S)) }
     {
@@ -143,7 +145,7 @@ impl Stack {
         mode: &mut Mode,
         at: usize,
         lexeme: Lexeme,
-    ) -> Result<(), StepFault>
+    ) -> Result<(), LexemeFault>
         ensures agrees { (S : List MachinePart) → IsOpen self.old S []
             → Agrees (Shows self.new) (leaving mode.new result) (opens_step S at (seen lexeme)) }
         ensures owed { (S : List MachinePart) → IsOpen self.old S []
@@ -162,7 +164,7 @@ impl Stack {
                 self.open_brace()?;
                 self.start_statement(mode, Lexeme::OpenBrace(inner))
             }
-            _ => Err(StepFault::Syntax),
+            _ => Err(LexemeFault::Syntax),
         }
     }
 
@@ -174,7 +176,7 @@ impl Stack {
         at: usize,
         name: Name,
         lexeme: Lexeme,
-    ) -> Result<(), StepFault>
+    ) -> Result<(), LexemeFault>
         ensures { (S : List MachinePart) → IsOpen self.old S []
             → Agrees (Shows self.new) (leaving mode.new result) (opens_name_step S at name (seen lexeme)) }
     {
@@ -206,7 +208,7 @@ impl Stack {
         at: usize,
         name: Name,
         lexeme: Lexeme,
-    ) -> Result<(), StepFault>
+    ) -> Result<(), LexemeFault>
         ensures { (S : List MachinePart) → IsOpen self.old S []
             → Agrees (Shows self.new) (leaving mode.new result) (opens_prime_step S at name (seen lexeme)) }
     {
@@ -223,7 +225,7 @@ impl Stack {
     }
 
     /// A star behind a brace.
-    pub(crate) fn star_after(&mut self, mode: &mut Mode, last: Last) -> Result<(), StepFault>
+    pub(crate) fn star_after(&mut self, mode: &mut Mode, last: Last) -> Result<(), LexemeFault>
         ensures agrees { (S : List MachinePart) (p : Piece) → Stands self.old last S p
             → Agrees (Shows self.new) (leaving mode.new result) (star_after S p) }
         ensures owed { (S : List MachinePart) (p : Piece) → Stands self.old last S p
@@ -235,9 +237,9 @@ impl Stack {
                 mode.set(Mode::Has(Last::Tree(sort, Tail::Starred)));
                 Ok(())
             }
-            Last::Tree(_, _) => Err(StepFault::Syntax),
-            Last::Name { .. } => Err(StepFault::Syntax),
-            Last::Symbol { .. } => Err(StepFault::Syntax),
+            Last::Tree(_, _) => Err(LexemeFault::Syntax),
+            Last::Name { .. } => Err(LexemeFault::Syntax),
+            Last::Symbol { .. } => Err(LexemeFault::Syntax),
         }
     }
 
@@ -246,7 +248,7 @@ impl Stack {
         &mut self,
         mode: &mut Mode,
         lexeme: Lexeme,
-    ) -> Result<(), StepFault>
+    ) -> Result<(), LexemeFault>
         ensures agrees { (S : List MachinePart) (t : Phrase) → IsOpen self.old S (postfix t)
             → Agrees (Shows self.new) (leaving mode.new result) (invariants_step S t (seen lexeme)) }
         ensures owed { (S : List MachinePart) (t : Phrase) → IsOpen self.old S (postfix t)
@@ -257,7 +259,7 @@ impl Stack {
                 self.out.push(Code::Notes)?;
                 self.open(mode, Part::Inside(Holder::Notes(0)))
             }
-            _ => Err(StepFault::Syntax),
+            _ => Err(LexemeFault::Syntax),
         }
     }
 }
@@ -282,7 +284,7 @@ fn program_constant(name: Name) -> Op
 }
 
 /// `@invariant` behind a brace or its star.
-pub(crate) fn invariant_after(mode: &mut Mode, last: Last) -> Result<(), StepFault>
+pub(crate) fn invariant_after(mode: &mut Mode, last: Last) -> Result<(), LexemeFault>
     ensures agrees { (k : TheStack) (S : List MachinePart) (p : Piece) → Stands k last S p
         → Agrees (Shows k) (leaving mode.new result) (invariant_after S p) }
     ensures owed { (k : TheStack) (S : List MachinePart) (p : Piece) → Stands k last S p
@@ -293,14 +295,14 @@ pub(crate) fn invariant_after(mode: &mut Mode, last: Last) -> Result<(), StepFau
             mode.set(Mode::Invariants);
             Ok(())
         }
-        Last::Tree(_, _) => Err(StepFault::Syntax),
-        Last::Name { .. } => Err(StepFault::Syntax),
-        Last::Symbol { .. } => Err(StepFault::Syntax),
+        Last::Tree(_, _) => Err(LexemeFault::Syntax),
+        Last::Name { .. } => Err(LexemeFault::Syntax),
+        Last::Symbol { .. } => Err(LexemeFault::Syntax),
     }
 }
 
 /// A semicolon behind a brace, its star or its invariants.
-pub(crate) fn semi_after(mode: &mut Mode, last: Last) -> Result<(), StepFault>
+pub(crate) fn semi_after(mode: &mut Mode, last: Last) -> Result<(), LexemeFault>
     ensures agrees { (k : TheStack) (S : List MachinePart) (p : Piece) → Stands k last S p
         → Agrees (Shows k) (leaving mode.new result) (semi_after S p) }
     ensures owed { (k : TheStack) (S : List MachinePart) (p : Piece) → Stands k last S p
@@ -311,8 +313,8 @@ pub(crate) fn semi_after(mode: &mut Mode, last: Last) -> Result<(), StepFault>
             mode.set(Mode::Has(Last::Tree(sort, Tail::Done)));
             Ok(())
         }
-        Last::Tree(_, _) => Err(StepFault::Syntax),
-        Last::Name { .. } => Err(StepFault::Syntax),
-        Last::Symbol { .. } => Err(StepFault::Syntax),
+        Last::Tree(_, _) => Err(LexemeFault::Syntax),
+        Last::Name { .. } => Err(LexemeFault::Syntax),
+        Last::Symbol { .. } => Err(LexemeFault::Syntax),
     }
 }

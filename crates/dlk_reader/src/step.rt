@@ -10,7 +10,7 @@ use crate::operands::bars_name_step;
 use crate::parts::{Between, Closer, Last, Mode};
 use crate::stack::{Stack, place, settle};
 use crate::statements::{invariant_after, semi_after};
-use crate::stop::StepFault;
+use crate::stop::LexemeFault;
 use dlk_grammar::Infix;
 use dlk_tree::Sort;
 use std::alloc::Global;
@@ -19,7 +19,7 @@ use std::mem;
 impl Stack {
     /// A lexeme where an operand or a statement is wanted.
     #[inline(always)]
-    fn start(&mut self, goal: Sort, mode: &mut Mode, lexeme: Lexeme) -> Result<(), StepFault>
+    fn start(&mut self, goal: Sort, mode: &mut Mode, lexeme: Lexeme) -> Result<(), LexemeFault>
         ensures { (S : List MachinePart) → IsOpen self.old S []
             → Agrees (Shows self.new) (leaving mode.new result) (start goal S (seen lexeme)) }
     {
@@ -38,7 +38,7 @@ impl Stack {
         mode: &mut Mode,
         operator: Infix,
         last: Last,
-    ) -> Result<(), StepFault>
+    ) -> Result<(), LexemeFault>
         ensures { (S : List MachinePart) (p : Piece) → Stands self.old last S p
             → Agrees (Shows self.new) (leaving mode.new result) (infix_after goal operator S p) }
     {
@@ -57,7 +57,7 @@ impl Stack {
         mode: &mut Mode,
         last: Last,
         lexeme: Lexeme,
-    ) -> Result<(), StepFault>
+    ) -> Result<(), LexemeFault>
         ensures { (S : List MachinePart) (p : Piece) → Stands self.old last S p
             → Agrees (Shows self.new) (leaving mode.new result) (next_after goal S p (seen lexeme)) }
     {
@@ -72,7 +72,7 @@ impl Stack {
         mode: &mut Mode,
         last: Last,
         lexeme: Lexeme,
-    ) -> Result<(), StepFault>
+    ) -> Result<(), LexemeFault>
         ensures { (S : List MachinePart) (p : Piece) → Stands self.old last S p
             → Agrees (Shows self.new) (leaving mode.new result) (after_program goal S p (seen lexeme)) }
     {
@@ -87,7 +87,7 @@ impl Stack {
             Lexeme::Name(at, name) => self.next_after(goal, mode, last, Lexeme::Name(at, name)),
             Lexeme::Query => self.next_after(goal, mode, last, Lexeme::Query),
             Lexeme::OpenBrace(at) => self.next_after(goal, mode, last, Lexeme::OpenBrace(at)),
-            _ => Err(StepFault::Syntax),
+            _ => Err(LexemeFault::Syntax),
         }
     }
 
@@ -99,7 +99,7 @@ impl Stack {
         mode: &mut Mode,
         last: Last,
         lexeme: Lexeme,
-    ) -> Result<(), StepFault>
+    ) -> Result<(), LexemeFault>
         ensures { (S : List MachinePart) (p : Piece) → Stands self.old last S p
             → Agrees (Shows self.new) (leaving mode.new result) (after_other goal S p (seen lexeme)) }
     {
@@ -114,7 +114,7 @@ impl Stack {
             Lexeme::CloseBrace => self.closing(mode, Closer::Brace, last),
             Lexeme::Comma => self.closing(mode, Closer::Comma, last),
             Lexeme::Semi => self.closing(mode, Closer::Semicolon, last),
-            _ => Err(StepFault::Syntax),
+            _ => Err(LexemeFault::Syntax),
         }
     }
 
@@ -126,7 +126,7 @@ impl Stack {
         mode: &mut Mode,
         last: Last,
         lexeme: Lexeme,
-    ) -> Result<(), StepFault>
+    ) -> Result<(), LexemeFault>
         ensures { (S : List MachinePart) (p : Piece) → Stands self.old last S p
             → Agrees (Shows self.new) (leaving mode.new result) (step goal (Has S p) (seen lexeme)) }
     {
@@ -149,7 +149,7 @@ impl Stack {
         goal: Sort,
         mode: &mut Mode,
         lexeme: Lexeme,
-    ) -> Result<(), StepFault>
+    ) -> Result<(), LexemeFault>
         ensures { (x : State) → Shows self.old mode.old x
             → Agrees (Shows self.new) (leaving mode.new result) (step goal x (seen lexeme)) }
     {
@@ -207,7 +207,7 @@ impl Stack {
         goal: Sort,
         mode: Mode,
         lexeme: Lexeme,
-    ) -> Result<Mode, StepFault>
+    ) -> Result<Mode, LexemeFault>
         ensures { (x : State) → Shows self.old mode x
             → Agrees (Shows self.new) result (step goal x (seen lexeme)) }
     {

@@ -1,14 +1,14 @@
 //! Why reading ends before its end.
 ghost use Rattle.std.specs.Prelude.{◌≡◌};
 ghost use Rattle.dlk_reader.specs.Outcomes.{of_lex};
-ghost use Rattle.dlk_reader.specs.declared.stop.StepFault.TheVariants.{Memory};
+ghost use Rattle.dlk_reader.specs.declared.stop.LexemeFault.TheVariants.{Memory};
 
 use dlk_lex::LexFault;
 use std::alloc::{AllocError, AllocFailed};
 
 /// Why a lexeme was not read.
 #[derive(Clone, Copy)]
-pub enum StepFault {
+pub enum LexemeFault {
     Memory,
     /// No text of the grammar goes on with it.
     Syntax,
@@ -24,19 +24,19 @@ pub enum Stop {
     Syntax { at: usize },
 }
 
-impl From<AllocError> for StepFault {
+impl From<AllocError> for LexemeFault {
     ghost from_gives = { λ _ e. e ≡ Memory };
 
-    fn from(_: AllocError) -> StepFault {
-        StepFault::Memory
+    fn from(_: AllocError) -> LexemeFault {
+        LexemeFault::Memory
     }
 }
 
-impl<T: Drop> From<AllocFailed<T>> for StepFault {
+impl<T: Drop> From<AllocFailed<T>> for LexemeFault {
     ghost from_gives = { λ _ e. e ≡ Memory };
 
-    fn from(_: AllocFailed<T>) -> StepFault {
-        StepFault::Memory
+    fn from(_: AllocFailed<T>) -> LexemeFault {
+        LexemeFault::Memory
     }
 }
 

@@ -11,11 +11,14 @@ ghost use Rattle.dlk_recorder.specs.Terms.{term_text, last_line};
 /// The term file of steps that are taken in turn, at least one, is accepted with the rows that they give, the last of them at
 /// the last step's line, and it says these steps. It has at most 999,999,999 bytes, so that each node has a number.
 pub fn recorded_is_accepted()
-    ensures accepted { (steps : List TreeStep) (rows : List Provable) → Takes [] steps rows → All HasSymbols steps → 1 ≤ length steps → length (term_text steps) ≤ 999999999 → Verdict (file_lines (term_text steps)) (accepted rows (last_line steps)) }
-    ensures steps { (steps : List TreeStep) (rows : List Provable) → Takes [] steps rows → All HasSymbols steps → length (term_text steps) ≤ 999999999 → FileSteps (file_lines (term_text steps)) steps }
+    ensures accepted { (steps : List TreeStep) (rows : List Provable) → Takes [] steps rows → All HasSymbols steps → 1 ≤ length steps →
+        length (term_text steps) ≤ 999999999 → Verdict (file_lines (term_text steps)) (accepted rows (last_line steps)) }
+    ensures steps { (steps : List TreeStep) (rows : List Provable) → Takes [] steps rows → All HasSymbols steps → length (term_text steps) ≤ 999999999 →
+        FileSteps (file_lines (term_text steps)) steps }
 {}
 
 /// Steps that are taken in turn may be written by the numbers of their nodes, where what their pairs replace are symbols.
+/// The statement of term files asks for it.
 pub fn taken_steps_are_writable()
     ensures { (steps : List TreeStep) (rows : List Provable) → Takes [] steps rows → All HasSymbols steps → AreWritable steps }
 {}

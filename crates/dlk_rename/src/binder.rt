@@ -51,7 +51,8 @@ fn read_assignment<S: Store, L: Ledger>(
     steps: &mut Steps<L>,
 ) -> Result<Option<Assignment>, AllocError>
     requires { IsId (S.trees store.now) program }
-    ensures { IfOk result (λ found. MatchOption found (AssignsNone (tree (S.trees store.now) program)) (IsAssignment (S.trees store.now) (tree (S.trees store.now) program))) }
+    ensures { IfOk result (λ found.
+        MatchOption found (AssignsNone (tree (S.trees store.now) program)) (IsAssignment (S.trees store.now) (tree (S.trees store.now) program))) }
 {
     let node = store.look(program, steps);
     match node.op {

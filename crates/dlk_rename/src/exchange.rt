@@ -99,7 +99,8 @@ fn make_over<S: Store>(
     requires like { IsId (S.trees store.old) like }
     requires known { All (IsId (S.trees store.old)) kids.now }
     requires fits { Fits (or_same (root (tree (S.trees store.old) like)) op) (sorts_at (S.trees store.old) kids.now) }
-    ensures made { IfOk result (λ id. StandsFor (S.trees store.new) id (node (or_same (root (tree (S.trees store.old) like)) op) (kid_trees (S.trees store.old) kids.now))) }
+    ensures made { IfOk result (λ id.
+        StandsFor (S.trees store.new) id (node (or_same (root (tree (S.trees store.old) like)) op) (kid_trees (S.trees store.old) kids.now))) }
     ensures grows { S.grows store.old store.new }
 {
     match op {

@@ -18,9 +18,6 @@ use Rattle.dlk_lines.specs.declared.fault.LineFault.{LineFault}
 use Rattle.dlk_lines.specs.declared.fault.LineFault.TheVariants as line_fault
 use Rattle.dlk_lines.specs.Read.{IsLineFaultOf}
 use Rattle.dlk_termtext.specs.Lines as full
-use Rattle.dlk_nodes.specs.declared.fault.NodeFault.{NodeFault}
-use Rattle.dlk_nodes.specs.declared.fault.NodeFault.TheVariants as node_fault
-use Rattle.dlk_nodes.specs.Faults.{IsNodeFaultOf}
 use Rattle.dlk_nodes.specs.Lines.{Line, OfNode, Numbered, Done, IsLine}
 use Rattle.dlk_nodes.specs.Nodes.{has_node, IsNode, new_node, IsNodeLine, node_line}
 use Rattle.dlk_nodes.specs.Tables.{nodes_at, has}
@@ -30,7 +27,7 @@ use Rattle.dlk_replay.specs.declared.fault.LineWhy.TheVariants as why
 use Rattle.dlk_replay.specs.declared.fault.ReplayFault.{ReplayFault}
 use Rattle.dlk_replay.specs.declared.fault.ReplayFault.TheVariants.{Bad, Memory}
 use Rattle.dlk_replay.specs.Formats.{Said, TakesStep, HasOtherNumber, TakesNone}
-use Rattle.dlk_replay.specs.Replay.{IsLineInFull, IsNextStep, IsLineFault, IsStepFault, IsNodeFault, of_text, of_node_text, of_step}
+use Rattle.dlk_replay.specs.Replay.{IsLineInFull, IsNextStep, IsLineFault, IsStepFault, IsNodeFault, of_text, of_step}
 
 -- ---- a number that isn't the next one
 
@@ -72,11 +69,6 @@ module _ (Is : List ℕ → Line → Type 0) (text : List ℕ) where
       IsLineFault Is nodes place rows text (of_text place fault)
   text_wrong nodes place rows line_fault.Malformed none = (refl, none)
   text_wrong nodes place rows line_fault.Memory none = tt
-
-  pub node_text_wrong : (nodes place : ℕ) (rows : List Provable) (fault : NodeFault) → IsNodeFaultOf ((line : Line) → ¬ Is text line) fault →
-      IsLineFault Is nodes place rows text (of_node_text place fault)
-  node_text_wrong nodes place rows node_fault.Malformed none = (refl, none)
-  node_text_wrong nodes place rows node_fault.Memory none = tt
 
   -- ---- nodes
 

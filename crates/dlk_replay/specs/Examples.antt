@@ -56,7 +56,8 @@ two_steps = more (of_step (numbered one (use_axiom refl))) (more (of_step (numbe
 
 -- the head of version 2 says none
 behind_its_head : FileSteps (file_lines (codes "dlk 2\n1 axiom DW\ndone\n")) (UseAxiom (codes "DW") ∷ [])
-behind_its_head = none head (more (behind_head (Numbered 1 (UseAxiom (codes "DW"))) only_head (by_nodes.of_step first)) (done (behind_head Done (one_step only_head first) by_nodes.done)))
+behind_its_head = none head (more (behind_head (Numbered 1 (UseAxiom (codes "DW"))) only_head (by_nodes.of_step first))
+    (done (behind_head Done (one_step only_head first) by_nodes.done)))
   where
     first : IsStepLine (ByNodes []) (codes "1 axiom DW") 1 (UseAxiom (codes "DW"))
     first = numbered (number 49 [] refl refl (lit≤ tt)) (use_axiom refl)

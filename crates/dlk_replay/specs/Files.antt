@@ -61,7 +61,8 @@ pub data Becomes (Says : Format) : List (List ℕ) → Answer → Type 0 where
       StepLines Says steps [] last → Says steps line EndsFile → Becomes Says (steps ++ line ∷ after) (bad (length steps + 1) why.Malformed)
   -- steps, `done`, and then one more line
   done_before : {steps : List (List ℕ)} {rows : List Provable} {last : ℕ} {line : List ℕ} (next : List ℕ) (after : List (List ℕ)) →
-      StepLines Says steps rows last → 1 ≤ length rows → Says steps line EndsFile → Becomes Says (steps ++ line ∷ next ∷ after) (bad (length steps + 2) why.Malformed)
+      StepLines Says steps rows last → 1 ≤ length rows → Says steps line EndsFile →
+      Becomes Says (steps ++ line ∷ next ∷ after) (bad (length steps + 2) why.Malformed)
   -- steps, and then a line with another number
   misnumbered : {steps : List (List ℕ)} {rows : List Provable} {last : ℕ} {line : List ℕ} (after : List (List ℕ)) →
       StepLines Says steps rows last → Says steps line HasOtherNumber → Becomes Says (steps ++ line ∷ after) (bad (length steps + 1) why.WrongNumber)

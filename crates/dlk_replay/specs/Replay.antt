@@ -14,8 +14,6 @@ use Rattle.dlk_kernel.specs.declared.fault.StepFault.TheVariants as step_fault
 use Rattle.dlk_lines.specs.declared.fault.LineFault.{LineFault}
 use Rattle.dlk_lines.specs.declared.fault.LineFault.TheVariants as line_fault
 use Rattle.dlk_termtext.specs.Lines as full
-use Rattle.dlk_nodes.specs.declared.fault.NodeFault.{NodeFault}
-use Rattle.dlk_nodes.specs.declared.fault.NodeFault.TheVariants as node_fault
 use Rattle.dlk_nodes.specs.Files.{head_line}
 use Rattle.dlk_nodes.specs.Lines.{Line, OfNode, Numbered, Done, IsLine}
 use Rattle.dlk_nodes.specs.Tables.{nodes_at}
@@ -45,11 +43,6 @@ LeavesRows lines rows Memory = (n : ℕ) × FileRows (take n lines) rows
 abbrev pub of_text : ℕ → LineFault → ReplayFault
 of_text place line_fault.Malformed = Bad place why.Malformed
 of_text place line_fault.Memory = Memory
-
--- in version 2
-abbrev pub of_node_text : ℕ → NodeFault → ReplayFault
-of_node_text place node_fault.Malformed = Bad place why.Malformed
-of_node_text place node_fault.Memory = Memory
 
 -- and of one whose step the kernel doesn't take
 abbrev pub of_step : ℕ → StepFault → ReplayFault
@@ -143,7 +136,8 @@ kept_of false steps = []
 
 -- What a replay has shown that was watched: the watcher has seen the steps that the lines say, each with the conclusion of the row that it
 -- gave, and these steps are kept or none.
-pub record Shows {V : Type 0} (after : V → SeenLine → V) (lines : List (List ℕ)) (rows : List Provable) (keep : Bool) (kept : List Step) (old new : V) : Type 0 where
+pub record Shows {V : Type 0} (after : V → SeenLine → V) (lines : List (List ℕ)) (rows : List Provable) (keep : Bool) (kept : List Step)
+    (old new : V) : Type 0 where
   pub taken : List Step
   pub says : FileSteps lines taken
   pub seen : new ≡ after_all after old (seen_lines taken rows)

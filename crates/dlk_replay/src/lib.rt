@@ -13,3 +13,4 @@ pub use laws::{
     one_said, one_verdict, recorded_lines_give_rows, some_said, some_verdict,
 };
 pub use replaying::{replay, replay_watched};
+pub use taking::first_line;

@@ -72,7 +72,8 @@ pub fn replay_watched<S: Store, L: Ledger, W: Watcher>(
     ensures some { OnOk result (1 ≤ length kernel.new.rows) }
 
     // The watcher saw the steps that the lines say, each with the conclusion of the row that it gave.
-    ensures seen { OnOk result ((taken : List TreeStep) × FileSteps (file_lines bytes.now) taken × (watcher.new ≡ after_all W.after watcher.old (lines taken (facts S.trees kernel.new)))) }
+    ensures seen { OnOk result ((taken : List TreeStep) × FileSteps (file_lines bytes.now) taken ×
+        (watcher.new ≡ after_all W.after watcher.old (lines taken (facts S.trees kernel.new)))) }
 
     ensures bad { IfErr result (IsReplayFaultOf (file_lines bytes.now)) }
     ensures left { IfErr result (LeavesRows (file_lines bytes.now) (facts S.trees kernel.new)) }
@@ -100,7 +101,8 @@ fn take_lines<S: Store, L: Ledger, W: Watcher>(
     ensures fact { IfOk result (λ outcome. outcome.fact ≡ length kernel.new.rows) }
     ensures lines { IfOk result (λ outcome. outcome.lines ≡ length kernel.new.rows) }
     ensures some { OnOk result (1 ≤ length kernel.new.rows) }
-    ensures shows { IfOk result (λ outcome. Shows W.after (file_lines bytes.now) (facts S.trees kernel.new) keep (map (step_at (S.trees kernel.new.store)) outcome.steps.items) watcher.old watcher.new) }
+    ensures shows { IfOk result (λ outcome. Shows W.after (file_lines bytes.now) (facts S.trees kernel.new) keep
+        (map (step_at (S.trees kernel.new.store)) outcome.steps.items) watcher.old watcher.new) }
     ensures known { IfOk result (λ outcome. All (HasKnownIds (S.trees kernel.new.store)) outcome.steps.items) }
     ensures bad { IfErr result (IsReplayFaultOf (file_lines bytes.now)) }
     ensures left { IfErr result (LeavesRows (file_lines bytes.now) (facts S.trees kernel.new)) }

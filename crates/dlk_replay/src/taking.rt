@@ -11,13 +11,14 @@ ghost use Rattle.dlk_replay.specs.declared.fault.LineWhy.TheVariants.{WrongNumbe
 ghost use Rattle.dlk_replay.specs.declared.fault.ReplayFault.TheVariants.{Bad};
 ghost use Rattle.dlk_replay.specs.declared.version.Version.TheVariants.{One, Two};
 ghost use Rattle.dlk_replay.specs.Files.{file_lines, is_line_feed};
-ghost use Rattle.dlk_replay.specs.Replay.{IsLineInFull, IsLineOf, nodes_of, AreKnownNodes, IsLineFault, IsStepFault, IsNodeFault, of_text, of_node_text, of_step, Takes, SeesLast};
+ghost use Rattle.dlk_replay.specs.Replay.{IsLineInFull, IsLineOf, nodes_of, AreKnownNodes, IsLineFault, IsStepFault, IsNodeFault, of_text};
+ghost use Rattle.dlk_replay.specs.Replay.{of_step, Takes, SeesLast};
 
 use crate::fault::{LineWhy, ReplayFault};
 use crate::version::Version;
 use dlk_guard::Watcher;
 use dlk_kernel::{Kernel, StepFault};
-use dlk_nodes::{Line2, NodeFault, NodeTable, read_node_line};
+use dlk_nodes::{Line2, NodeTable, read_node_line};
 use dlk_rules::{Step, step_stays};
 use dlk_store::{Id, Steps, Store};
 use dlk_termtext::{Line, LineFault, read_line};
@@ -46,9 +47,11 @@ pub(crate) fn take_line<S: Store, L: Ledger>(
     steps: &mut Steps<L>,
 ) -> Result<Taken, ReplayFault>
     requires { AreKnownNodes (S.trees kernel.old.store) version.old }
-    ensures taken { IfOk result (Takes (S.trees kernel.old.store) (S.trees kernel.new.store) version.old version.new (facts S.trees kernel.old) line.now (facts S.trees kernel.new)) }
+    ensures taken { IfOk result
+        (Takes (S.trees kernel.old.store) (S.trees kernel.new.store) version.old version.new (facts S.trees kernel.old) line.now (facts S.trees kernel.new)) }
     ensures nodes { OnOk result (AreKnownNodes (S.trees kernel.new.store) version.new) }
-    ensures fault { IfErr result (IsLineFault (IsLineOf (S.trees kernel.old.store) version.old) (nodes_of version.old) place (facts S.trees kernel.old) line.now) }
+    ensures fault { IfErr result
+        (IsLineFault (IsLineOf (S.trees kernel.old.store) version.old) (nodes_of version.old) place (facts S.trees kernel.old) line.now) }
     ensures err { OnErr result (facts S.trees kernel.new ≡ facts S.trees kernel.old) }
     ensures grows { S.grows kernel.old.store kernel.new.store }
 {
@@ -66,7 +69,8 @@ fn take_in_full<S: Store, L: Ledger>(
     kernel: &mut Kernel<S>,
     steps: &mut Steps<L>,
 ) -> Result<Taken, ReplayFault>
-    ensures taken { IfOk result (Takes (S.trees kernel.old.store) (S.trees kernel.new.store) One One (facts S.trees kernel.old) line.now (facts S.trees kernel.new)) }
+    ensures taken { IfOk result
+        (Takes (S.trees kernel.old.store) (S.trees kernel.new.store) One One (facts S.trees kernel.old) line.now (facts S.trees kernel.new)) }
     ensures fault { IfErr result (IsLineFault IsLineInFull 0 place (facts S.trees kernel.old) line.now) }
     ensures err { OnErr result (facts S.trees kernel.new ≡ facts S.trees kernel.old) }
     ensures grows { S.grows kernel.old.store kernel.new.store }
@@ -92,9 +96,11 @@ fn take_by_nodes<S: Store, L: Ledger>(
     steps: &mut Steps<L>,
 ) -> Result<Taken, ReplayFault>
     requires { All (IsId (S.trees kernel.old.store)) table.old }
-    ensures taken { IfOk result (Takes (S.trees kernel.old.store) (S.trees kernel.new.store) (Two table.old) (Two table.new) (facts S.trees kernel.old) line.now (facts S.trees kernel.new)) }
+    ensures taken { IfOk result (Takes (S.trees kernel.old.store) (S.trees kernel.new.store) (Two table.old) (Two table.new) (facts S.trees kernel.old) line.now
+        (facts S.trees kernel.new)) }
     ensures nodes { OnOk result (All (IsId (S.trees kernel.new.store)) table.new) }
-    ensures fault { IfErr result (IsLineFault (IsLine (nodes_at (S.trees kernel.old.store) table.old)) (length table.old) place (facts S.trees kernel.old) line.now) }
+    ensures fault { IfErr result
+        (IsLineFault (IsLine (nodes_at (S.trees kernel.old.store) table.old)) (length table.old) place (facts S.trees kernel.old) line.now) }
     ensures err { OnErr result (facts S.trees kernel.new ≡ facts S.trees kernel.old) }
     ensures grows { S.grows kernel.old.store kernel.new.store }
 {
@@ -110,7 +116,7 @@ fn take_by_nodes<S: Store, L: Ledger>(
             take_step(alloc, &step, number, place, kernel, steps)?;
             Ok(Taken::Step(step))
         }
-        Err(fault) => Err(of_node_text(place, fault)),
+        Err(fault) => Err(of_text(place, fault)),
     }
 }
 
@@ -153,19 +159,6 @@ fn of_text(place: usize, fault: LineFault) -> ReplayFault
             why: LineWhy::Malformed,
         },
         LineFault::Memory => ReplayFault::Memory,
-    }
-}
-
-/// The same in version 2.
-fn of_node_text(place: usize, fault: NodeFault) -> ReplayFault
-    ensures { result ≡ of_node_text place fault }
-{
-    match fault {
-        NodeFault::Malformed => ReplayFault::Bad {
-            line: place,
-            why: LineWhy::Malformed,
-        },
-        NodeFault::Memory => ReplayFault::Memory,
     }
 }
 
@@ -219,7 +212,7 @@ pub(crate) fn show_last<S: Store, L: Ledger, W: Watcher>(
 }
 
 /// The first line of what is left of a file, without its line feed, and what comes behind it.
-pub(crate) fn first_line(left: &[u8]) -> (&[u8], &[u8])
+pub fn first_line(left: &[u8]) -> (&[u8], &[u8])
     requires { 0 < length left.now }
     ensures lines { file_lines left.now ≡ result.0.now ∷ file_lines result.1.now }
     ensures less { length result.1.now < length left.now }

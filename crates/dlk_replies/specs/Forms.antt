@@ -6,8 +6,8 @@ use Rattle.dlk_replies.specs.declared.command.Command.{Command}
 use Rattle.dlk_replies.specs.declared.command.Command.TheVariants.{Check, Print, Vars, Subst, Report, Smt, Guard, Prove, Gen, Convert, Link, Trim, Session}
 use Rattle.dlk_replies.specs.declared.form.Role.{Role}
 use Rattle.dlk_replies.specs.declared.form.Role.TheVariants.{Model, Term, File, Substitution, Strategy, Lemma, Script}
-use Rattle.dlk_replies.specs.declared.form.Last.{Last}
-use Rattle.dlk_replies.specs.declared.form.Last.TheVariants.{Output, Number}
+use Rattle.dlk_replies.specs.declared.form.LastWord.{LastWord}
+use Rattle.dlk_replies.specs.declared.form.LastWord.TheVariants.{Output, Number}
 
 abbrev pub Word : Type 0
 Word = List ℕ
@@ -16,7 +16,7 @@ Word = List ℕ
 pub record Form : Type 0 where
   pub verb : Word
   pub inputs : List Role  -- what the words behind the verb name, in their order
-  pub last : Option Last  -- what the word behind those is, if there is one
+  pub last : Option LastWord  -- what the word behind those is, if there is one
 
 abbrev pub form_of : Command → Form
 form_of Check = record { verb = codes "check"; inputs = Model ∷ Term ∷ []; last = None }
@@ -60,12 +60,12 @@ is_count (a ∷ b ∷ []) = is_between 49 57 a && is_digit b
 is_count (a ∷ b ∷ c ∷ []) = (is_between 49 52 a && (is_digit b && is_digit c)) || bytes_eq (a ∷ b ∷ c ∷ []) (codes "500")
 is_count _ = false
 
-abbrev pub is_last : Last → Word → Bool
+abbrev pub is_last : LastWord → Word → Bool
 is_last Output word = true
 is_last Number word = is_count word
 
 -- the words behind the inputs
-abbrev pub ends_in : Option Last → List Word → Bool
+abbrev pub ends_in : Option LastWord → List Word → Bool
 ends_in None [] = true
 ends_in None (word ∷ words) = false
 ends_in (Some last) [] = false
@@ -95,7 +95,7 @@ inputs_of command words = take (length (form_of command).inputs) (drop 1 words)
 abbrev pub others_of : Command → List Word → List Word
 others_of command words = drop (length (form_of command).inputs) (drop 1 words)
 
-abbrev pub output_named : Option Last → List Word → Option Word
+abbrev pub output_named : Option LastWord → List Word → Option Word
 output_named (Some Output) (name ∷ words) = Some name
 output_named (Some Output) [] = None
 output_named (Some Number) words = None

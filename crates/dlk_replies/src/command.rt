@@ -3,7 +3,7 @@ ghost use Rattle.std.specs.Prelude.{◌≡◌, [], length, map, string_bytes, No
 ghost use Rattle.dlk_replies.specs.Forms.{form_of, inputs_of, others_of, output_of, ends_in, command_of};
 ghost use Rattle.dlk_replies.specs.Shown.{form_shown};
 
-use crate::form::{Form, Last, Role};
+use crate::form::{Form, LastWord, Role};
 
 /// What a command does.
 #[derive(Clone, Copy, Debug, PartialEq, Eq)]
@@ -65,23 +65,23 @@ fn reading(verb: &'static str, inputs: &'static [Role]) -> Form
 
 /// The form of a command that ends with the file that it writes.
 fn writing(verb: &'static str, inputs: &'static [Role]) -> Form
-    ensures { form_shown result ≡ record { verb = verb.now; inputs = inputs.now; last = Some Last.Output } }
+    ensures { form_shown result ≡ record { verb = verb.now; inputs = inputs.now; last = Some LastWord.Output } }
 {
     Form {
         verb,
         inputs,
-        last: Some(Last::Output),
+        last: Some(LastWord::Output),
     }
 }
 
 /// The form of a command without inputs that ends with a number.
 fn counting(verb: &'static str) -> Form
-    ensures { form_shown result ≡ record { verb = verb.now; inputs = []; last = Some Last.Number } }
+    ensures { form_shown result ≡ record { verb = verb.now; inputs = []; last = Some LastWord.Number } }
 {
     Form {
         verb,
         inputs: &[],
-        last: Some(Last::Number),
+        last: Some(LastWord::Number),
     }
 }
 
@@ -143,7 +143,7 @@ impl Command {
         ensures { option_copied result ≡ output_of self (map string_bytes words.now) }
     {
         match (self.form().last, self.others(words)) {
-            (Some(Last::Output), [name, ..]) => Some(name.as_str()),
+            (Some(LastWord::Output), [name, ..]) => Some(name.as_str()),
             _ => None,
         }
     }

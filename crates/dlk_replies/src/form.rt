@@ -55,7 +55,7 @@ impl Role {
 
 /// What the word behind the inputs is.
 #[derive(Clone, Copy, Debug, PartialEq, Eq)]
-pub enum Last {
+pub enum LastWord {
     /// The file that is written.
     Output,
     /// A number from 1 to 500 without leading zeros.
@@ -112,14 +112,14 @@ fn is_digit(byte: u8) -> bool
     is_between(b'0', b'9', byte)
 }
 
-impl Last {
+impl LastWord {
     /// Whether the word is one.
     fn fits(self, word: &str) -> bool
         ensures { result ≡ is_last self word.now }
     {
         match self {
-            Last::Output => true,
-            Last::Number => is_count(word),
+            LastWord::Output => true,
+            LastWord::Number => is_count(word),
         }
     }
 }
@@ -131,11 +131,11 @@ pub struct Form {
     /// What the words behind the verb name, in their order.
     pub inputs: &'static [Role],
     /// What the word behind those is, if there is one.
-    pub last: Option<Last>,
+    pub last: Option<LastWord>,
 }
 
 /// Whether these words may stand behind the inputs.
-fn ends_in(last: Option<Last>, words: &[String]) -> bool
+fn ends_in(last: Option<LastWord>, words: &[String]) -> bool
     ensures { result ≡ ends_in last (map string_bytes words.now) }
 {
     match (last, words) {

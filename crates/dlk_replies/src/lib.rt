@@ -11,6 +11,6 @@ mod reply;
 pub use command::Command;
 pub use ended::{Ended, answer_of, end_by};
 pub use fault::NoReply;
-pub use form::{Form, Last, Role, count_of};
+pub use form::{Form, LastWord, Role, count_of};
 pub use refusal::{refuse_at, refuse_text, refused};
 pub use reply::{Layout, Reply, Showing, Status, printing};

@@ -22,7 +22,8 @@ pub fn word_wants_one_shape()
 /// The places of each rule of a word are those of the side that the word has: a rule's places are there exactly where each of them is one
 /// of that side.
 pub fn places_are_on_one_side()
-    ensures { (word : RuleWord) (side : Side) (rule : TreeRule) → side_of word ≡ Some side → word_of rule ≡ text_of word → (A S : List Tree) → (figure rule A S).places ↔ ArePlaces (formulas_of side A S) (arguments_of rule) }
+    ensures { (word : RuleWord) (side : Side) (rule : TreeRule) → side_of word ≡ Some side → word_of rule ≡ text_of word → (A S : List Tree) →
+        (figure rule A S).places ↔ ArePlaces (formulas_of side A S) (arguments_of rule) }
 {}
 
 /// A step stays one while its store grows: its ids are those of the store, and it stands for the same.

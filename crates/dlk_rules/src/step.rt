@@ -76,7 +76,8 @@ impl Step {
     /// The step with another number for each fact that it names.
     pub fn renumbered<F: Fn(u32) -> u32>(mut self, to: F) -> Step
         requires { (fact : ℕ) → Contains (facts_of (step_at [] self)) fact → F.pre to fact }
-        ensures same { (numbers : ℕ → ℕ) → ((fact new : ℕ) → Contains (facts_of (step_at [] self)) fact → F.post to fact new → new ≡ numbers fact) → (trees : List Tree) → step_at trees result ≡ renumbered numbers (step_at trees self) }
+        ensures same { (numbers : ℕ → ℕ) → ((fact new : ℕ) → Contains (facts_of (step_at [] self)) fact → F.post to fact new → new ≡ numbers fact) →
+            (trees : List Tree) → step_at trees result ≡ renumbered numbers (step_at trees self) }
         ensures known { (trees : List Tree) → HasKnownIds trees self → HasKnownIds trees result }
     {
         match &mut self {

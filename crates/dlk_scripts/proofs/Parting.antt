@@ -4,8 +4,8 @@ use Rattle.std.proofs.Common.{◌∙◌, append_assoc, arith}
 use Rattle.std.proofs.Math.Seq.{take-length}
 use Rattle.std.proofs.lemmas.List.{take-append-drop, length-take-le, take_more}
 use Rattle.dlk_scripts.specs.declared.state.State.{State}
-use Rattle.dlk_scripts.specs.declared.state.StepFault.{StepFault}
-use Rattle.dlk_scripts.specs.declared.state.StepFault.TheVariants.{Memory, Syntax}
+use Rattle.dlk_scripts.specs.declared.state.ByteFault.{ByteFault}
+use Rattle.dlk_scripts.specs.declared.state.ByteFault.TheVariants.{Memory, Syntax}
 use Rattle.dlk_scripts.specs.Texts.{HasParts, Stops, IsPartsFaultOf}
 use Rattle.dlk_scripts.specs.Steps.{step, ended, first_state, HasDigits, Does, stop_at}
 use Rattle.dlk_scripts.proofs.Reached.{Reached, reached_first}
@@ -57,12 +57,12 @@ come_open bytes at y c ge e =
     (subst (λ (x : List ℕ). Stops x (length (take at bytes))) (all_taken bytes at c.within ge) stop)
 
 -- the fault of a step, and that of the end
-pub fault_at : (bytes : List ℕ) (at : ℕ) (y new : State) → Come bytes at y → at < length bytes → (f : StepFault) →
+pub fault_at : (bytes : List ℕ) (at : ℕ) (y new : State) → Come bytes at y → at < length bytes → (f : ByteFault) →
     Does (step y at (get_or bytes at 0)) (Err f) new → IsPartsFaultOf bytes (stop_at f at)
 fault_at bytes at y new c lt Memory d = tt
 fault_at bytes at y new c lt Syntax d = come_stop bytes at y c lt d
 
-pub end_fault : (bytes : List ℕ) (at : ℕ) (y new : State) → Come bytes at y → length bytes ≤ at → (f : StepFault) →
+pub end_fault : (bytes : List ℕ) (at : ℕ) (y new : State) → Come bytes at y → length bytes ≤ at → (f : ByteFault) →
     Does (ended y) (Err f) new → IsPartsFaultOf bytes (stop_at f at)
 end_fault bytes at y new c ge Memory d = tt
 end_fault bytes at y new c ge Syntax d = come_open bytes at y c ge d

@@ -12,8 +12,8 @@ use Rattle.dlk_scripts.specs.declared.mode.Turn.{Turn}
 use Rattle.dlk_scripts.specs.declared.state.Within.{Within}
 use Rattle.dlk_scripts.specs.declared.state.Within.TheVariants.{Between, Slash, Comment, CommentStar, Name, Number, Quoted, Less, Quote}
 use Rattle.dlk_scripts.specs.declared.state.State.{State}
-use Rattle.dlk_scripts.specs.declared.state.StepFault.{StepFault}
-use Rattle.dlk_scripts.specs.declared.state.StepFault.TheVariants.{Memory, Syntax}
+use Rattle.dlk_scripts.specs.declared.state.ByteFault.{ByteFault}
+use Rattle.dlk_scripts.specs.declared.state.ByteFault.TheVariants.{Memory, Syntax}
 use Rattle.dlk_scripts.specs.declared.fault.PartsFault.{PartsFault}
 use Rattle.dlk_scripts.specs.declared.fault.PartsFault.TheVariants as parts
 use Rattle.dlk_scripts.specs.Parts.{part, most_digits}
@@ -145,13 +145,13 @@ ended_by Between y = ended y
 ended_by w y = settled_by w y
 
 -- Does o result new: what was done is o. Want of memory is free.
-abbrev pub Does : Option State → Result (Unit {0}) StepFault → State → Type 0
+abbrev pub Does : Option State → Result (Unit {0}) ByteFault → State → Type 0
 Does o (Ok u) new = o ≡ Some new
 Does o (Err Syntax) new = o ≡ None
 Does o (Err Memory) new = Unit {0}
 
 -- the fault at this place
-abbrev pub stop_at : StepFault → ℕ → PartsFault
+abbrev pub stop_at : ByteFault → ℕ → PartsFault
 stop_at Memory at = parts.Memory
 stop_at Syntax at = parts.Syntax at
 

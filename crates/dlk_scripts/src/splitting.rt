@@ -5,16 +5,16 @@ ghost use Rattle.dlk_scripts.specs.Steps.{stop_at};
 
 use crate::fault::PartsFault;
 use crate::part::Part;
-use crate::state::{State, StepFault};
+use crate::state::{ByteFault, State};
 use std::alloc::Global;
 
 /// A fault at this byte.
-fn stop(fault: StepFault, at: usize) -> PartsFault
+fn stop(fault: ByteFault, at: usize) -> PartsFault
     ensures { result ≡ stop_at fault at }
 {
     match fault {
-        StepFault::Memory => PartsFault::Memory,
-        StepFault::Syntax => PartsFault::Syntax { at },
+        ByteFault::Memory => PartsFault::Memory,
+        ByteFault::Syntax => PartsFault::Syntax { at },
     }
 }
 

@@ -3,10 +3,12 @@ ghost use Rattle.std.specs.Prelude.{◌≡◌, ◌≤◌, ◌∷◌, [], IsTrue,
 ghost use Rattle.std.specs.List.{list_all};
 ghost use Rattle.dlk_grammar.specs.Tokens.{is_digit};
 ghost use Rattle.dlk_scripts.specs.declared.part.PartKind.TheVariants as kind;
-ghost use Rattle.dlk_scripts.specs.declared.state.Within.TheVariants.{Between, Name as AName, Number as ANumber, Quoted as AString, Quote, Less, Slash, Comment, CommentStar};
+ghost use Rattle.dlk_scripts.specs.declared.state.Within.TheVariants.{Between, Name as AName, Number as ANumber, Quoted as AString, Quote, Less, Slash};
+ghost use Rattle.dlk_scripts.specs.declared.state.Within.TheVariants.{Comment, CommentStar};
 ghost use Rattle.dlk_scripts.specs.Table.{when, changed};
-ghost use Rattle.dlk_scripts.specs.Steps.{first_state, mark_of, takes_mark, take, begins, grows, moves, digits_go_on, start, ends_name, ends_number, settle, step_in, step, as_word, begun_by, settled_by, ended, ended_by, Does, HasDigits};
-ghost use Rattle.dlk_scripts.specs.declared.state.StepFault.TheVariants.{Memory, Syntax};
+ghost use Rattle.dlk_scripts.specs.Steps.{first_state, mark_of, takes_mark, take, begins, grows, moves, digits_go_on, start, ends_name, ends_number, settle};
+ghost use Rattle.dlk_scripts.specs.Steps.{step_in, step, as_word, begun_by, settled_by, ended, ended_by, Does, HasDigits};
+ghost use Rattle.dlk_scripts.specs.declared.state.ByteFault.TheVariants.{Memory, Syntax};
 
 use crate::bytes::{is_digit, is_space, mark, number};
 use crate::listed::Listed;
@@ -57,25 +59,25 @@ pub(crate) struct State {
 
 /// Why a byte was not read.
 #[derive(Clone, Copy)]
-pub(crate) enum StepFault {
+pub(crate) enum ByteFault {
     Memory,
     /// No text of the grammar goes on with it.
     Syntax,
 }
 
-impl From<AllocError> for StepFault {
+impl From<AllocError> for ByteFault {
     ghost from_gives = { λ _ e. e ≡ Memory };
 
-    fn from(_: AllocError) -> StepFault {
-        StepFault::Memory
+    fn from(_: AllocError) -> ByteFault {
+        ByteFault::Memory
     }
 }
 
-impl<T: Drop> From<AllocFailed<T>> for StepFault {
+impl<T: Drop> From<AllocFailed<T>> for ByteFault {
     ghost from_gives = { λ _ e. e ≡ Memory };
 
-    fn from(_: AllocFailed<T>) -> StepFault {
-        StepFault::Memory
+    fn from(_: AllocFailed<T>) -> ByteFault {
+        ByteFault::Memory
     }
 }
 
@@ -115,12 +117,12 @@ impl State {
     }
 
     /// The part at this place has come.
-    fn take(&mut self, kind: PartKind, at: usize) -> Result<(), StepFault>
+    fn take(&mut self, kind: PartKind, at: usize) -> Result<(), ByteFault>
         ensures done { Does (take self.old kind at) result self.new }
         ensures owed { take self.old kind at ≡ None → result ≡ Err Syntax }
     {
         let Some(turn) = leads(self.mode, self.opens.top(), &kind) else {
-            return Err(StepFault::Syntax);
+            return Err(ByteFault::Syntax);
         };
         self.change(turn.change)?;
         self.parts.push(Part { kind, at })?;
@@ -130,14 +132,14 @@ impl State {
     }
 
     /// Only what is within changes.
-    fn moves(&mut self, within: Within) -> Result<(), StepFault>
+    fn moves(&mut self, within: Within) -> Result<(), ByteFault>
         ensures { Does (Some (moves self.old within)) result self.new }
     {
         self.within = within;
         Ok(())
     }
 
-    fn grows(&mut self, byte: u8) -> Result<(), StepFault>
+    fn grows(&mut self, byte: u8) -> Result<(), ByteFault>
         ensures { Does (Some (grows self.old byte)) result self.new }
     {
         self.buffer.push(byte)?;
@@ -151,12 +153,12 @@ impl State {
         may: bool,
         within: Within,
         at: usize,
-    ) -> Result<(), StepFault>
+    ) -> Result<(), ByteFault>
         ensures done { Does (when may (Some (begins self.old within at []))) result self.new }
         ensures owed { may ≡ false → result ≡ Err Syntax }
     {
         if !may {
-            return Err(StepFault::Syntax);
+            return Err(ByteFault::Syntax);
         }
         self.within = within;
         self.begin = at;
@@ -172,7 +174,7 @@ impl State {
         within: Within,
         at: usize,
         byte: u8,
-    ) -> Result<(), StepFault>
+    ) -> Result<(), ByteFault>
         ensures done { Does (when may (Some (begins self.old within at (byte ∷ [])))) result self.new }
         ensures owed { may ≡ false → result ≡ Err Syntax }
     {
@@ -181,18 +183,18 @@ impl State {
     }
 
     /// A part of one byte.
-    fn one_byte(&mut self, at: usize, byte: u8) -> Result<(), StepFault>
+    fn one_byte(&mut self, at: usize, byte: u8) -> Result<(), ByteFault>
         ensures done { Does (takes_mark self.old at (mark_of byte)) result self.new }
         ensures owed { takes_mark self.old at (mark_of byte) ≡ None → result ≡ Err Syntax }
     {
         match mark(byte) {
             Some(kind) => self.take(kind, at),
-            None => Err(StepFault::Syntax),
+            None => Err(ByteFault::Syntax),
         }
     }
 
     /// A byte between parts.
-    fn start(&mut self, alloc: Global, at: usize, byte: u8) -> Result<(), StepFault>
+    fn start(&mut self, alloc: Global, at: usize, byte: u8) -> Result<(), ByteFault>
         ensures done { Does (start self.old at byte) result self.new }
         ensures owed { start self.old at byte ≡ None → result ≡ Err Syntax }
     {
@@ -221,19 +223,19 @@ impl State {
     }
 
     /// A name ends.
-    fn ends_name(&mut self, alloc: Global) -> Result<(), StepFault>
+    fn ends_name(&mut self, alloc: Global) -> Result<(), ByteFault>
         ensures done { Does (ends_name self.old) result self.new }
         ensures owed { as_word self.old ≡ None → result ≡ Err Syntax }
     {
         match Name::new(alloc, self.buffer.as_slice()) {
             Ok(name) => self.take(PartKind::Name(name), self.begin),
-            Err(NameFault::NotAName) => Err(StepFault::Syntax),
-            Err(NameFault::Memory) => Err(StepFault::Memory),
+            Err(NameFault::NotAName) => Err(ByteFault::Syntax),
+            Err(NameFault::Memory) => Err(ByteFault::Memory),
         }
     }
 
     /// A number ends.
-    fn ends_number(&mut self) -> Result<(), StepFault>
+    fn ends_number(&mut self) -> Result<(), ByteFault>
         requires few { length self.old.buffer ≤ 9 }
         requires digits { IsTrue (list_all is_digit self.old.buffer) }
         ensures done { Does (ends_number self.old) result self.new }
@@ -244,7 +246,7 @@ impl State {
     }
 
     /// A string ends.
-    fn ends_string(&mut self, alloc: Global) -> Result<(), StepFault>
+    fn ends_string(&mut self, alloc: Global) -> Result<(), ByteFault>
         ensures { Does (take self.old (kind.Quoted self.old.buffer) self.old.begin) result self.new }
     {
         let bytes = self.buffer.as_slice().to_vec(alloc)?;
@@ -252,7 +254,7 @@ impl State {
     }
 
     /// A byte behind bytes of a name.
-    fn name(&mut self, alloc: Global, at: usize, byte: u8) -> Result<(), StepFault>
+    fn name(&mut self, alloc: Global, at: usize, byte: u8) -> Result<(), ByteFault>
         ensures done { Does (step_in AName self.old at byte) result self.new }
         ensures owed { begun_by AName self.old at byte ≡ None → result ≡ Err Syntax }
     {
@@ -264,7 +266,7 @@ impl State {
     }
 
     /// A byte behind digits of a number.
-    fn number(&mut self, alloc: Global, at: usize, byte: u8) -> Result<(), StepFault>
+    fn number(&mut self, alloc: Global, at: usize, byte: u8) -> Result<(), ByteFault>
         requires few { length self.old.buffer ≤ 9 }
         requires digits { IsTrue (list_all is_digit self.old.buffer) }
         ensures done { Does (step_in ANumber self.old at byte) result self.new }
@@ -278,12 +280,12 @@ impl State {
         if digits_go_on(self.mode, self.buffer.as_slice()) {
             Ok(())
         } else {
-            Err(StepFault::Syntax)
+            Err(ByteFault::Syntax)
         }
     }
 
     /// A byte of a string.
-    fn string(&mut self, alloc: Global, byte: u8) -> Result<(), StepFault>
+    fn string(&mut self, alloc: Global, byte: u8) -> Result<(), ByteFault>
         ensures { Does (step_in AString self.old 0 byte) result self.new }
     {
         if byte == b'"' {
@@ -293,7 +295,7 @@ impl State {
     }
 
     /// The byte behind `'`.
-    fn side(&mut self, byte: u8) -> Result<(), StepFault>
+    fn side(&mut self, byte: u8) -> Result<(), ByteFault>
         ensures done { Does (step_in Quote self.old 0 byte) result self.new }
         ensures owed { step_in Quote self.old 0 byte ≡ None → result ≡ Err Syntax }
     {
@@ -303,33 +305,33 @@ impl State {
         if byte == b'R' {
             return self.take(PartKind::AnyRight, self.begin);
         }
-        Err(StepFault::Syntax)
+        Err(ByteFault::Syntax)
     }
 
     /// The byte behind `<`.
-    fn fork(&mut self, byte: u8) -> Result<(), StepFault>
+    fn fork(&mut self, byte: u8) -> Result<(), ByteFault>
         ensures done { Does (step_in Less self.old 0 byte) result self.new }
         ensures owed { step_in Less self.old 0 byte ≡ None → result ≡ Err Syntax }
     {
         if byte != b'(' {
-            return Err(StepFault::Syntax);
+            return Err(ByteFault::Syntax);
         }
         self.take(PartKind::Fork, self.begin)
     }
 
     /// The byte behind `/`.
-    fn slash(&mut self, byte: u8) -> Result<(), StepFault>
+    fn slash(&mut self, byte: u8) -> Result<(), ByteFault>
         ensures done { Does (step_in Slash self.old 0 byte) result self.new }
         ensures owed { step_in Slash self.old 0 byte ≡ None → result ≡ Err Syntax }
     {
         if byte == b'*' {
             return self.moves(Within::Comment);
         }
-        Err(StepFault::Syntax)
+        Err(ByteFault::Syntax)
     }
 
     /// A byte of a comment.
-    fn comment(&mut self, byte: u8) -> Result<(), StepFault>
+    fn comment(&mut self, byte: u8) -> Result<(), ByteFault>
         ensures { Does (step_in Comment self.old 0 byte) result self.new }
     {
         if byte == b'*' {
@@ -339,7 +341,7 @@ impl State {
     }
 
     /// A byte of a comment behind a star.
-    fn comment_star(&mut self, byte: u8) -> Result<(), StepFault>
+    fn comment_star(&mut self, byte: u8) -> Result<(), ByteFault>
         ensures { Does (step_in CommentStar self.old 0 byte) result self.new }
     {
         if byte == b'/' {
@@ -353,7 +355,7 @@ impl State {
     /// # Errors
     ///
     /// `Syntax` comes exactly where no text goes on with it, and `Memory` where memory ran out.
-    pub(crate) fn step(&mut self, alloc: Global, at: usize, byte: u8) -> Result<(), StepFault>
+    pub(crate) fn step(&mut self, alloc: Global, at: usize, byte: u8) -> Result<(), ByteFault>
         requires { HasDigits self.old }
         ensures done { Does (step self.old at byte) result self.new }
         ensures owed { begun_by self.old.within self.old at byte ≡ None → result ≡ Err Syntax }
@@ -372,7 +374,7 @@ impl State {
     }
 
     /// A name or a number that has come ends here.
-    fn settle(&mut self, alloc: Global) -> Result<(), StepFault>
+    fn settle(&mut self, alloc: Global) -> Result<(), ByteFault>
         requires { HasDigits self.old }
         ensures done { Does (settle self.old) result self.new }
         ensures owed { settled_by self.old.within self.old ≡ None → result ≡ Err Syntax }
@@ -387,7 +389,7 @@ impl State {
             | Within::CommentStar
             | Within::Quoted
             | Within::Less
-            | Within::Quote => Err(StepFault::Syntax),
+            | Within::Quote => Err(ByteFault::Syntax),
         }
     }
 
@@ -396,7 +398,7 @@ impl State {
     /// # Errors
     ///
     /// `Syntax` comes exactly where what was read is no whole text, and `Memory` where memory ran out.
-    pub(crate) fn ended(&mut self, alloc: Global) -> Result<(), StepFault>
+    pub(crate) fn ended(&mut self, alloc: Global) -> Result<(), ByteFault>
         requires { HasDigits self.old }
         ensures done { Does (ended self.old) result self.new }
         ensures owed { ended_by self.old.within self.old ≡ None → result ≡ Err Syntax }
@@ -405,7 +407,7 @@ impl State {
         if is_whole(self.mode) && self.opens.is_empty() {
             Ok(())
         } else {
-            Err(StepFault::Syntax)
+            Err(ByteFault::Syntax)
         }
     }
 

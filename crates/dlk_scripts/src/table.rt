@@ -1,6 +1,7 @@
 //! What each part leads to.
 ghost use Rattle.std.specs.Prelude.{◌≡◌};
-ghost use Rattle.dlk_scripts.specs.Table.{at_comma, at_close, joins, repeated, named, wants, next, number, first_number, argument, argued, place, leads, wants_name, wants_number, wants_first, wants_argument, wants_fork, is_whole};
+ghost use Rattle.dlk_scripts.specs.Table.{at_comma, at_close, joins, repeated, named, wants, next, number, first_number, argument, argued, place, leads};
+ghost use Rattle.dlk_scripts.specs.Table.{wants_name, wants_number, wants_first, wants_argument, wants_fork, is_whole};
 
 use crate::mode::{Change, Mode, Opening, Turn};
 use crate::part::PartKind;

@@ -7,6 +7,7 @@ ghost use Rattle.dlk_sequent.specs.Spines.{Way, top, path_of, IsSpine, outer_par
 ghost use Rattle.dlk_sequent.specs.Substitutions.{Checked, pairs_at, IsMadeOver};
 
 /// A substitution stays one while its store grows: its pairs stand for the same, so it makes the same of each tree.
+/// The statement of stores that grow asks for it.
 pub fn substitution_stays()
     ensures made { (old new : List Tree) (sigma : Checked) → Keeps old new → IsMadeOver old sigma → IsMadeOver new sigma }
     ensures same { (old new : List Tree) (sigma : Checked) → Keeps old new → IsMadeOver old sigma → pairs_at new sigma.pairs ≡ pairs_at old sigma.pairs }

@@ -73,7 +73,8 @@ fn with_kid<S: Store, L: Ledger>(
     requires known { IsId (S.trees store.old) turn.node }
     requires new { IsId (S.trees store.old) new }
     requires fits { HasSort (sort (tree (S.trees store.old) new)) (subtree (tree (S.trees store.old) turn.node) (turn.kid ∷ [])) }
-    ensures ok { IfOk result (λ id. StandsFor (S.trees store.new) id (put_at (tree (S.trees store.old) turn.node) (turn.kid ∷ []) (tree (S.trees store.old) new))) }
+    ensures ok { IfOk result (λ id.
+        StandsFor (S.trees store.new) id (put_at (tree (S.trees store.old) turn.node) (turn.kid ∷ []) (tree (S.trees store.old) new))) }
     ensures err { IfErr result (λ e. e ≡ PutFault.Memory) }
     ensures grows { S.grows store.old store.new }
 {

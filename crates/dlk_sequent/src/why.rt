@@ -113,7 +113,8 @@ pub(crate) fn why<S: Store, L: Ledger>(
     steps: &mut Steps<L>,
 ) -> Result<Option<Why>, AllocError>
     requires { IsId (S.trees store.now) pair.now.by }
-    ensures why { (pairs : List TreePair) → twice ≡ list_any (λ (p : TreePair). sym_eq pair.now.sym p.sym) pairs → IfOk result (λ w. w ≡ why pairs (pair_at (S.trees store.now) pair.now)) }
+    ensures why { (pairs : List TreePair) → twice ≡ list_any (λ (p : TreePair). sym_eq pair.now.sym p.sym) pairs →
+        IfOk result (λ w. w ≡ why pairs (pair_at (S.trees store.now) pair.now)) }
     ensures cost { steps.new ≤ steps.old + 2 }
 {
     let kind = pair.sym.kind;

@@ -13,8 +13,10 @@ use crate::runner::Runner;
 
 /// Lines have at most one list of answers, and leave at most one state.
 pub fn one_session<R: Runner>()
-    ensures line { (now next other : State) (line : Line) (a b : Answer) → Turn R.becomes now line a next → Turn R.becomes now line b other → (a ≡ b) × (next ≡ other) }
-    ensures lines { (now last other : State) (lines : List Line) (a b : List Answer) → Turns R.becomes now lines a last → Turns R.becomes now lines b other → (a ≡ b) × (last ≡ other) }
+    ensures line { (now next other : State) (line : Line) (a b : Answer) → Turn R.becomes now line a next → Turn R.becomes now line b other →
+        (a ≡ b) × (next ≡ other) }
+    ensures lines { (now last other : State) (lines : List Line) (a b : List Answer) → Turns R.becomes now lines a last → Turns R.becomes now lines b other →
+        (a ≡ b) × (last ≡ other) }
 {
     R::laws();
 }
@@ -30,11 +32,16 @@ pub fn session_is_kept<R: Runner>()
 }
 
 /// A run that is done and then undone leaves the steps, the rows and what can be undone as they were. Its atoms stay counted.
+/// The statement of sessions asks for it.
 pub fn undo_gives_back<R: Runner>()
-    ensures steps { (now next last : State) (goal goals : ℕ) (strategy : Tactic) (says : Reply) → IsKept now → Applies R.becomes goal strategy now (TheOk goals) next → Undoes next says last → last.steps ≡ now.steps }
-    ensures rows { (now next last : State) (goal goals : ℕ) (strategy : Tactic) (says : Reply) → IsKept now → Applies R.becomes goal strategy now (TheOk goals) next → Undoes next says last → last.rows ≡ now.rows }
-    ensures earlier { (now next last : State) (goal goals : ℕ) (strategy : Tactic) (says : Reply) → IsKept now → Applies R.becomes goal strategy now (TheOk goals) next → Undoes next says last → last.earlier ≡ now.earlier }
-    ensures used { (now next last : State) (goal goals : ℕ) (strategy : Tactic) (says : Reply) → Applies R.becomes goal strategy now (TheOk goals) next → Undoes next says last → last.used ≡ next.used }
+    ensures steps { (now next last : State) (goal goals : ℕ) (strategy : Tactic) (says : Reply) → IsKept now →
+        Applies R.becomes goal strategy now (TheOk goals) next → Undoes next says last → last.steps ≡ now.steps }
+    ensures rows { (now next last : State) (goal goals : ℕ) (strategy : Tactic) (says : Reply) → IsKept now →
+        Applies R.becomes goal strategy now (TheOk goals) next → Undoes next says last → last.rows ≡ now.rows }
+    ensures earlier { (now next last : State) (goal goals : ℕ) (strategy : Tactic) (says : Reply) → IsKept now →
+        Applies R.becomes goal strategy now (TheOk goals) next → Undoes next says last → last.earlier ≡ now.earlier }
+    ensures used { (now next last : State) (goal goals : ℕ) (strategy : Tactic) (says : Reply) → Applies R.becomes goal strategy now (TheOk goals) next →
+        Undoes next says last → last.used ≡ next.used }
 {
     R::laws();
 }

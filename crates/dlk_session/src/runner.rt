@@ -46,7 +46,8 @@ pub trait Runner {
         requires of_text { AreOfText (tactic_at (S.trees kernel.old.store) strategy.now) }
         requires goal { IsPlace (main_goals (facts S.trees kernel.old)) goal }
         requires used { used ≤ most_runs }
-        ensures done { IfOk result (λ more. becomes (tactic_at (S.trees kernel.old.store) strategy.now) (facts S.trees kernel.old) goal used (Done (progress_at S.trees kernel.new more.steps.items more.used) more.count)) }
+        ensures done { IfOk result (λ more. becomes (tactic_at (S.trees kernel.old.store) strategy.now) (facts S.trees kernel.old) goal used
+            (Done (progress_at S.trees kernel.new more.steps.items more.used) more.count)) }
         ensures known { IfOk result (λ more. All (HasKnownIds (S.trees kernel.new.store)) more.steps.items) }
         ensures kept { OnOk result (ExtendsRows S.trees kernel.old kernel.new) }
         ensures fault { IfErr result (IsOnFaultOf (becomes (tactic_at (S.trees kernel.old.store) strategy.now) (facts S.trees kernel.old) goal used)) }
@@ -56,8 +57,12 @@ pub trait Runner {
     /// The laws of what becomes of a goal: a contract of a call that does nothing. There is at most one outcome. The steps that are made are taken in
     /// turn behind the rows, and give the rows. Runs are counted on from those of before, up to 16,000, and each makes at most 24 steps.
     fn laws()
-        ensures one { (t : TreeTactic) (rows : List Provable) (goal used : ℕ) (a b : Outcome) → becomes t rows goal used a → becomes t rows goal used b → a ≡ b }
-        ensures taken { (t : TreeTactic) (rows : List Provable) (goal used : ℕ) (made : Progress) (left : ℕ) → becomes t rows goal used (Done made left) → Takes rows made.steps made.rows }
-        ensures counted { (t : TreeTactic) (rows : List Provable) (goal used : ℕ) (made : Progress) (left : ℕ) → used ≤ most_runs → becomes t rows goal used (Done made left) → (used ≤ made.used) × (made.used ≤ most_runs) × (length made.steps ≤ most_steps * (made.used - used)) }
-        ensures failed { (t : TreeTactic) (rows : List Provable) (goal used at count : ℕ) (why : FailWhy) → used ≤ most_runs → becomes t rows goal used (Fails at why count) → (used ≤ count) × (count ≤ most_runs) };
+        ensures one { (t : TreeTactic) (rows : List Provable) (goal used : ℕ) (a b : Outcome) → becomes t rows goal used a → becomes t rows goal used b →
+            a ≡ b }
+        ensures taken { (t : TreeTactic) (rows : List Provable) (goal used : ℕ) (made : Progress) (left : ℕ) → becomes t rows goal used (Done made left) →
+            Takes rows made.steps made.rows }
+        ensures counted { (t : TreeTactic) (rows : List Provable) (goal used : ℕ) (made : Progress) (left : ℕ) → used ≤ most_runs →
+            becomes t rows goal used (Done made left) → (used ≤ made.used) × (made.used ≤ most_runs) × (length made.steps ≤ most_steps * (made.used - used)) }
+        ensures failed { (t : TreeTactic) (rows : List Provable) (goal used at count : ℕ) (why : FailWhy) → used ≤ most_runs →
+            becomes t rows goal used (Fails at why count) → (used ≤ count) × (count ≤ most_runs) };
 }

@@ -41,9 +41,13 @@ impl<S: Store> Model for Session<S> {
 
     ghost Value = { Held S };
 
-    ghost view = { λ s. record { kernel = s.kernel; steps = s.steps.items; earlier = s.earlier.items; used = s.used; saved = option_map (λ v. v.items) s.saved } };
+    ghost view = { λ s.
+        record { kernel = s.kernel; steps = s.steps.items; earlier = s.earlier.items; used = s.used; saved = option_map (λ v. v.items) s.saved } };
 
-    ghost invariant = { λ s. IsHeld S.trees (record { kernel = s.kernel; steps = s.steps.items; earlier = s.earlier.items; used = s.used; saved = option_map (λ v. v.items) s.saved }) × AreShared (S.trees s.kernel.store) s.shared s.steps.items (option_map (λ v. v.items) s.saved) };
+    ghost invariant = { λ s.
+        IsHeld S.trees
+        (record { kernel = s.kernel; steps = s.steps.items; earlier = s.earlier.items; used = s.used; saved = option_map (λ v. v.items) s.saved }) ×
+        AreShared (S.trees s.kernel.store) s.shared s.steps.items (option_map (λ v. v.items) s.saved) };
 }
 
 impl<S: Store> Session<S> {
@@ -112,7 +116,8 @@ impl<S: Store> Session<S> {
     ) -> Result<Reply, SessionFault>
         requires known { TacticIsKnown (S.trees self.old.kernel.store) strategy.now }
         requires of_text { AreOfText (tactic_at (S.trees self.old.kernel.store) strategy.now) }
-        ensures applies { IfOk result (λ says. Applies R.becomes goal (tactic_at (S.trees self.old.kernel.store) strategy.now) (state S.trees self.old) says (state S.trees self.new)) }
+        ensures applies { IfOk result (λ says.
+            Applies R.becomes goal (tactic_at (S.trees self.old.kernel.store) strategy.now) (state S.trees self.old) says (state S.trees self.new)) }
         ensures err { OnErr result (state S.trees self.new ≡ state S.trees self.old) }
         ensures grows { S.grows self.old.kernel.store self.new.kernel.store }
     {
@@ -175,7 +180,8 @@ impl<S: Store> Session<S> {
         alloc: Global,
         steps: &mut Steps<L>,
     ) -> Result<Vec<u8>, SessionFault>
-        ensures { IfOk result (λ text. (p : Provable) × At (state S.trees self.now).rows (length (state S.trees self.now).rows) p × (text.items ≡ text_report p (length (state S.trees self.now).rows))) }
+        ensures { IfOk result (λ text. (p : Provable) × At (state S.trees self.now).rows (length (state S.trees self.now).rows) p ×
+            (text.items ≡ text_report p (length (state S.trees self.now).rows))) }
     {
         let rows = self.kernel.rows();
         let report = shown(alloc, &self.kernel, rows, rows, steps)?;

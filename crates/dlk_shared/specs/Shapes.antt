@@ -11,8 +11,9 @@ use Rattle.dlk_tree.specs.declared.op.OdeItem.{OdeItem}
 use Rattle.dlk_tree.specs.declared.op.Var.{Var}
 use Rattle.dlk_store.specs.declared.listing.Which.{Which}
 use Rattle.dlk_store.specs.declared.listing.Which.TheVariants.{Free, Bound, Must}
-use Rattle.dlk_shared.specs.declared.shape.Shape.{Shape}
-use Rattle.dlk_shared.specs.declared.shape.Shape.TheVariants.{Own, AsKids, Differential, Quantified, Modal, Assigned, Tested, Evolved, Branching, Sequence}
+use Rattle.dlk_shared.specs.declared.shape.StaticsShape.{StaticsShape}
+use Rattle.dlk_shared.specs.declared.shape.StaticsShape.TheVariants.{Own, AsKids, Differential, Quantified, Modal, Assigned, Tested, Evolved, Branching}
+use Rattle.dlk_shared.specs.declared.shape.StaticsShape.TheVariants.{Sequence}
 
 -- what an item of a system reads, binds or must-binds
 abbrev pub in_item : Which → OdeItem → Var → Bool
@@ -69,7 +70,7 @@ own_sets Op'.Seq = sets_are none none none
 own_sets Op'.Loop = sets_are none none none
 
 -- how an operator puts its kids' sets together
-abbrev pub shape_of : Op → Shape
+abbrev pub shape_of : Op → StaticsShape
 shape_of (Op'.Variable v) = Own
 shape_of (Op'.Number n) = Own
 shape_of (Op'.Dot n) = Own
@@ -114,7 +115,7 @@ shape_of Op'.Seq = Sequence
 shape_of Op'.Loop = AsKids
 
 -- the sets of a node, of those that its operator brings and those of its kids
-abbrev pub put_together : Shape → Sets → List Sets → Sets
+abbrev pub put_together : StaticsShape → Sets → List Sets → Sets
 put_together Own own kids = own
 put_together AsKids own kids = as_kids kids
 put_together Differential own kids = sets_are (and_primes (free_in_kids kids)) (bound_in_kids kids) none

@@ -6,7 +6,7 @@ use dlk_tree::Op;
 
 /// A group of operators with one row in the table of the static semantics.
 #[derive(Clone, Copy)]
-pub enum Shape {
+pub enum StaticsShape {
     /// The sets are the operator's own, whatever its kids' are.
     Own,
     AsKids,
@@ -21,7 +21,7 @@ pub enum Shape {
 }
 
 /// The group of an operator.
-pub fn shape_of(op: &Op) -> Shape
+pub fn shape_of(op: &Op) -> StaticsShape
     ensures { result ≡ shape_of op.now }
 {
     match op {
@@ -35,15 +35,15 @@ pub fn shape_of(op: &Op) -> Shape
         | Op::UnitPred(_)
         | Op::Predicational(_)
         | Op::Const(_)
-        | Op::Any(_) => Shape::Own,
-        Op::Diff | Op::DiffF => Shape::Differential,
-        Op::Forall(_) | Op::Exists(_) => Shape::Quantified,
-        Op::Box | Op::Dia => Shape::Modal,
-        Op::Assign(_) => Shape::Assigned,
-        Op::Test => Shape::Tested,
-        Op::System(_) => Shape::Evolved,
-        Op::Choice => Shape::Branching,
-        Op::Seq => Shape::Sequence,
-        _ => Shape::AsKids,
+        | Op::Any(_) => StaticsShape::Own,
+        Op::Diff | Op::DiffF => StaticsShape::Differential,
+        Op::Forall(_) | Op::Exists(_) => StaticsShape::Quantified,
+        Op::Box | Op::Dia => StaticsShape::Modal,
+        Op::Assign(_) => StaticsShape::Assigned,
+        Op::Test => StaticsShape::Tested,
+        Op::System(_) => StaticsShape::Evolved,
+        Op::Choice => StaticsShape::Branching,
+        Op::Seq => StaticsShape::Sequence,
+        _ => StaticsShape::AsKids,
     }
 }

@@ -65,7 +65,8 @@ impl SharedStore {
 
     fn key(&self, id: Id) -> &Key
         requires { IsId (trees_of self.now.ops.keys self.now.nodes.entries) id }
-        ensures node { tree (trees_of self.now.ops.keys self.now.nodes.entries) id ≡ node (op_at self.now.ops.keys result.now.op) (kid_trees (trees_of self.now.ops.keys self.now.nodes.entries) result.now.kids) }
+        ensures node { tree (trees_of self.now.ops.keys self.now.nodes.entries) id ≡
+            node (op_at self.now.ops.keys result.now.op) (kid_trees (trees_of self.now.ops.keys self.now.nodes.entries) result.now.kids) }
         ensures op { result.now.op < length self.now.ops.keys }
         ensures kids { All (IsId (trees_of self.now.ops.keys self.now.nodes.entries)) result.now.kids }
     {
@@ -82,7 +83,8 @@ impl SharedStore {
     /// The sets of these trees.
     fn kid_sets(&self, alloc: Global, kids: &[Id]) -> Result<Vec<NodeSets>, StoreFault>
         requires { All (IsId (trees_of self.now.ops.keys self.now.nodes.entries)) kids.now }
-        ensures are { IfOk result (λ found. map (sets_at self.now.sets) found.items ≡ sets_all (kid_trees (trees_of self.now.ops.keys self.now.nodes.entries) kids.now)) }
+        ensures are { IfOk result (λ found.
+            map (sets_at self.now.sets) found.items ≡ sets_all (kid_trees (trees_of self.now.ops.keys self.now.nodes.entries) kids.now)) }
         ensures known { IfOk result (λ found. All (AreSets self.now.sets) found.items) }
     {
         let mut found = Vec::with_capacity(alloc, kids.len())?;
@@ -96,7 +98,8 @@ impl SharedStore {
     fn sets_over(&mut self, alloc: Global, key: &Key) -> Result<NodeSets, StoreFault>
         requires op { key.now.op < length self.old.ops.keys }
         requires known { All (IsId (trees_of self.old.ops.keys self.old.nodes.entries)) key.now.kids }
-        ensures means { IfOk result (λ n. MeanSets self.new.sets n (sets_of (node (op_at self.old.ops.keys key.now.op) (kid_trees (trees_of self.old.ops.keys self.old.nodes.entries) key.now.kids)))) }
+        ensures means { IfOk result (λ n. MeanSets self.new.sets n
+            (sets_of (node (op_at self.old.ops.keys key.now.op) (kid_trees (trees_of self.old.ops.keys self.old.nodes.entries) key.now.kids)))) }
         ensures ops { self.new.ops ≡ self.old.ops }
         ensures nodes { self.new.nodes ≡ self.old.nodes }
     {
@@ -113,7 +116,8 @@ impl SharedStore {
     /// The signatures of these trees.
     fn kid_signs(&self, alloc: Global, kids: &[Id]) -> Result<Vec<u32>, StoreFault>
         requires { All (IsId (trees_of self.now.ops.keys self.now.nodes.entries)) kids.now }
-        ensures are { IfOk result (λ found. (s : Sym) → list_any (λ k. sign_at self.now.signs k s) found.items ≡ any_has (has_symbol s) (kid_trees (trees_of self.now.ops.keys self.now.nodes.entries) kids.now)) }
+        ensures are { IfOk result (λ found. (s : Sym) → list_any (λ k. sign_at self.now.signs k s) found.items ≡
+            any_has (has_symbol s) (kid_trees (trees_of self.now.ops.keys self.now.nodes.entries) kids.now)) }
         ensures known { IfOk result (λ found. All (IsSign self.now.signs) found.items) }
     {
         let mut found = Vec::with_capacity(alloc, kids.len())?;
@@ -127,7 +131,8 @@ impl SharedStore {
     fn sign_over(&mut self, alloc: Global, key: &Key) -> Result<u32, StoreFault>
         requires op { key.now.op < length self.old.ops.keys }
         requires known { All (IsId (trees_of self.old.ops.keys self.old.nodes.entries)) key.now.kids }
-        ensures signs { IfOk result (λ n. Signs self.new.signs n (λ s. occurs s (node (op_at self.old.ops.keys key.now.op) (kid_trees (trees_of self.old.ops.keys self.old.nodes.entries) key.now.kids)))) }
+        ensures signs { IfOk result (λ n. Signs self.new.signs n (λ s.
+            occurs s (node (op_at self.old.ops.keys key.now.op) (kid_trees (trees_of self.old.ops.keys self.old.nodes.entries) key.now.kids)))) }
         ensures ops { self.new.ops ≡ self.old.ops }
         ensures nodes { self.new.nodes ≡ self.old.nodes }
         ensures sets { self.new.sets ≡ self.old.sets }
@@ -223,7 +228,8 @@ impl SharedStore {
         requires op { key.op < length self.old.ops.keys }
         requires known { All (IsId (trees_of self.old.ops.keys self.old.nodes.entries)) key.kids }
         requires fits { Fits (op_at self.old.ops.keys key.op) (sorts_at (trees_of self.old.ops.keys self.old.nodes.entries) key.kids) }
-        ensures made { IfOk result (λ id. StandsFor (trees_of self.new.ops.keys self.new.nodes.entries) id (node (op_at self.old.ops.keys key.op) (kid_trees (trees_of self.old.ops.keys self.old.nodes.entries) key.kids))) }
+        ensures made { IfOk result (λ id. StandsFor (trees_of self.new.ops.keys self.new.nodes.entries) id
+            (node (op_at self.old.ops.keys key.op) (kid_trees (trees_of self.old.ops.keys self.old.nodes.entries) key.kids))) }
         ensures grows { Keeps (trees_of self.old.ops.keys self.old.nodes.entries) (trees_of self.new.ops.keys self.new.nodes.entries) }
     {
         match self.nodes.get_index_of(&key) {
@@ -238,7 +244,8 @@ impl SharedStore {
         requires op { key.op < length self.old.ops.keys }
         requires known { All (IsId (trees_of self.old.ops.keys self.old.nodes.entries)) key.kids }
         requires fits { Fits (op_at self.old.ops.keys key.op) (sorts_at (trees_of self.old.ops.keys self.old.nodes.entries) key.kids) }
-        ensures made { IfOk result (λ id. StandsFor (trees_of self.new.ops.keys self.new.nodes.entries) id (node (op_at self.old.ops.keys key.op) (kid_trees (trees_of self.old.ops.keys self.old.nodes.entries) key.kids))) }
+        ensures made { IfOk result (λ id. StandsFor (trees_of self.new.ops.keys self.new.nodes.entries) id
+            (node (op_at self.old.ops.keys key.op) (kid_trees (trees_of self.old.ops.keys self.old.nodes.entries) key.kids))) }
         ensures grows { Keeps (trees_of self.old.ops.keys self.old.nodes.entries) (trees_of self.new.ops.keys self.new.nodes.entries) }
     {
         let sets = self.sets_over(alloc, &key)?;
@@ -252,9 +259,12 @@ impl SharedStore {
         requires op { key.op < length self.old.ops.keys }
         requires known { All (IsId (trees_of self.old.ops.keys self.old.nodes.entries)) key.kids }
         requires fits { Fits (op_at self.old.ops.keys key.op) (sorts_at (trees_of self.old.ops.keys self.old.nodes.entries) key.kids) }
-        requires sets { MeanSets self.old.sets sets (sets_of (node (op_at self.old.ops.keys key.op) (kid_trees (trees_of self.old.ops.keys self.old.nodes.entries) key.kids))) }
-        requires sign { Signs self.old.signs sign (λ s. occurs s (node (op_at self.old.ops.keys key.op) (kid_trees (trees_of self.old.ops.keys self.old.nodes.entries) key.kids))) }
-        ensures made { IfOk result (λ id. StandsFor (trees_of self.new.ops.keys self.new.nodes.entries) id (node (op_at self.old.ops.keys key.op) (kid_trees (trees_of self.old.ops.keys self.old.nodes.entries) key.kids))) }
+        requires sets { MeanSets self.old.sets sets
+            (sets_of (node (op_at self.old.ops.keys key.op) (kid_trees (trees_of self.old.ops.keys self.old.nodes.entries) key.kids))) }
+        requires sign { Signs self.old.signs sign (λ s.
+            occurs s (node (op_at self.old.ops.keys key.op) (kid_trees (trees_of self.old.ops.keys self.old.nodes.entries) key.kids))) }
+        ensures made { IfOk result (λ id. StandsFor (trees_of self.new.ops.keys self.new.nodes.entries) id
+            (node (op_at self.old.ops.keys key.op) (kid_trees (trees_of self.old.ops.keys self.old.nodes.entries) key.kids))) }
         ensures grows { Keeps (trees_of self.old.ops.keys self.old.nodes.entries) (trees_of self.new.ops.keys self.new.nodes.entries) }
     {
         let facts = self.facts_over(

@@ -6,7 +6,7 @@ ghost use Rattle.dlk_shared.specs.SetTables.{Means, MeanSets, Keeps, AreSets, se
 
 use crate::node::NodeSets;
 use crate::sets::SetTable;
-use crate::shape::{Shape, shape_of};
+use crate::shape::{StaticsShape, shape_of};
 use dlk_store::Which;
 use dlk_tree::Op;
 use dlk_vars::VarFault;
@@ -71,7 +71,7 @@ impl SetTable {
     /// What the node reads.
     fn free_over(
         &mut self,
-        shape: Shape,
+        shape: StaticsShape,
         own: NodeSets,
         kids: &[NodeSets],
         empty: u32,
@@ -83,32 +83,31 @@ impl SetTable {
         ensures keeps { Keeps self.old self.new }
     {
         match shape {
-            Shape::Own => Ok(own.free),
-            Shape::Differential => {
+            StaticsShape::Own => Ok(own.free),
+            StaticsShape::Differential => {
                 let free = self.in_kids(Which::Free, kids, empty)?;
                 self.and_primes(free)
             }
-            Shape::Quantified => {
+            StaticsShape::Quantified => {
                 let free = self.in_kids(Which::Free, kids, empty)?;
                 self.without(free, own.bound)
             }
-            Shape::Evolved => {
+            StaticsShape::Evolved => {
                 let free = self.in_kids(Which::Free, kids, empty)?;
                 self.either(own.free, free)
             }
-            Shape::Modal | Shape::Sequence => self.in_turn(kids, empty),
-            Shape::AsKids | Shape::Assigned | Shape::Tested | Shape::Branching => self.in_kids(
-                Which::Free,
-                kids,
-                empty,
-            ),
+            StaticsShape::Modal | StaticsShape::Sequence => self.in_turn(kids, empty),
+            StaticsShape::AsKids
+            | StaticsShape::Assigned
+            | StaticsShape::Tested
+            | StaticsShape::Branching => self.in_kids(Which::Free, kids, empty),
         }
     }
 
     /// What the node binds.
     fn bound_over(
         &mut self,
-        shape: Shape,
+        shape: StaticsShape,
         own: NodeSets,
         kids: &[NodeSets],
         empty: u32,
@@ -120,24 +119,24 @@ impl SetTable {
         ensures keeps { Keeps self.old self.new }
     {
         match shape {
-            Shape::Own | Shape::Assigned | Shape::Evolved => Ok(own.bound),
-            Shape::Tested => Ok(empty),
-            Shape::Quantified => {
+            StaticsShape::Own | StaticsShape::Assigned | StaticsShape::Evolved => Ok(own.bound),
+            StaticsShape::Tested => Ok(empty),
+            StaticsShape::Quantified => {
                 let bound = self.in_kids(Which::Bound, kids, empty)?;
                 self.either(bound, own.bound)
             }
-            Shape::AsKids
-            | Shape::Differential
-            | Shape::Modal
-            | Shape::Branching
-            | Shape::Sequence => self.in_kids(Which::Bound, kids, empty),
+            StaticsShape::AsKids
+            | StaticsShape::Differential
+            | StaticsShape::Modal
+            | StaticsShape::Branching
+            | StaticsShape::Sequence => self.in_kids(Which::Bound, kids, empty),
         }
     }
 
     /// What the node must-binds.
     fn must_over(
         &mut self,
-        shape: Shape,
+        shape: StaticsShape,
         own: NodeSets,
         kids: &[NodeSets],
         empty: u32,
@@ -149,21 +148,21 @@ impl SetTable {
         ensures keeps { Keeps self.old self.new }
     {
         match shape {
-            Shape::Own | Shape::Assigned | Shape::Evolved => Ok(own.must),
-            Shape::Branching => self.must_in_both(kids, empty),
-            Shape::Sequence => self.must_in_one(kids, empty),
-            Shape::AsKids
-            | Shape::Differential
-            | Shape::Quantified
-            | Shape::Modal
-            | Shape::Tested => Ok(empty),
+            StaticsShape::Own | StaticsShape::Assigned | StaticsShape::Evolved => Ok(own.must),
+            StaticsShape::Branching => self.must_in_both(kids, empty),
+            StaticsShape::Sequence => self.must_in_one(kids, empty),
+            StaticsShape::AsKids
+            | StaticsShape::Differential
+            | StaticsShape::Quantified
+            | StaticsShape::Modal
+            | StaticsShape::Tested => Ok(empty),
         }
     }
 
     /// The three sets of a node whose operator has this shape and these sets of its own, over kids with these sets.
     pub fn together(
         &mut self,
-        shape: Shape,
+        shape: StaticsShape,
         own: NodeSets,
         kids: &[NodeSets],
         empty: u32,

@@ -39,7 +39,8 @@ unfolding digits
 one_sequent = refl
 
 -- two leaves: the second begins with (reset)
-two_leaves : leaves_lines 1 (adds_one ∷ adds_one ∷ []) ≡ line (codes "; leaf 1") ++ (text_of_adds_one ++ (line (codes "; leaf 2") ++ (line (codes "(reset)") ++ text_of_adds_one)))
+two_leaves : leaves_lines 1 (adds_one ∷ adds_one ∷ [])
+    ≡ line (codes "; leaf 1") ++ (text_of_adds_one ++ (line (codes "; leaf 2") ++ (line (codes "(reset)") ++ text_of_adds_one)))
 unfolding digits
 two_leaves = refl
 
@@ -95,7 +96,9 @@ unfolding digits
 terms = refl
 
 -- x=y&x!=y|!x>y <-> x<=y -> x < y
-comparisons : shown (expression (two op.Equiv (two op.Or (two op.And (two op.Eq x y) (two op.Ne x y)) (one op.Not (two op.Gt x y))) (two op.Imply (two op.Le x y) (two op.Lt x y))))
+comparisons : shown (expression (two op.Equiv
+    (two op.Or (two op.And (two op.Eq x y) (two op.Ne x y)) (one op.Not (two op.Gt x y)))
+    (two op.Imply (two op.Le x y) (two op.Lt x y))))
     ≡ codes "(= (or (and (= |v.x| |v.y|) (not (= |v.x| |v.y|))) (not (> |v.x| |v.y|))) (=> (<= |v.x| |v.y|) (< |v.x| |v.y|)))"
 comparisons = refl
 

@@ -37,7 +37,8 @@ impl Symbols {
         steps: &mut Steps<L>,
     ) -> Result<(), PrintFault>
         requires { All (IsId (S.trees store.now)) ids.now }
-        ensures { let trees = kid_trees (S.trees store.now) ids.now in OnOk result (Gains self.old self.new (everywhere_in own_variables trees) (everywhere_in own_functions trees)) }
+        ensures { let trees = kid_trees (S.trees store.now) ids.now in
+            OnOk result (Gains self.old self.new (everywhere_in own_variables trees) (everywhere_in own_functions trees)) }
     {
         let [id, rest @ ..] = ids else {
             return Ok(());

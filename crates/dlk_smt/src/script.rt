@@ -7,7 +7,8 @@ ghost use Rattle.dlk_tree.specs.Listed.{var_cmp};
 ghost use Rattle.dlk_tree.specs.Statics.{free};
 ghost use Rattle.dlk_store.specs.Stores.{IsId, tree};
 ghost use Rattle.dlk_sequent.specs.Sequents.{sequent_at, IsKnown};
-ghost use Rattle.dlk_smt.specs.Smt.{variable_symbol, function_symbol, in_some_formula, in_formulas, own_variables, own_functions, put_all, declaration, declarations, assertion, assertions, expression, denied, smt};
+ghost use Rattle.dlk_smt.specs.Smt.{variable_symbol, function_symbol, in_some_formula, in_formulas, own_variables, own_functions, put_all, declaration};
+ghost use Rattle.dlk_smt.specs.Smt.{declarations, assertion, assertions, expression, denied, smt};
 
 use crate::collected::Symbols;
 use crate::symbol::{append_function, append_variable};
@@ -28,8 +29,10 @@ fn symbols<S: Store, L: Ledger>(
     steps: &mut Steps<L>,
 ) -> Result<Symbols, PrintFault>
     requires { IsKnown (S.trees store.now) s.now }
-    ensures variables { IfOk result (λ symbols. symbols.variables.keys ≡ put_all var_cmp [] (in_formulas own_variables (sequent_at (S.trees store.now) s.now))) }
-    ensures functions { IfOk result (λ symbols. symbols.functions.keys ≡ put_all (slice_cmp nat_cmp) [] (in_formulas own_functions (sequent_at (S.trees store.now) s.now))) }
+    ensures variables { IfOk result (λ symbols.
+        symbols.variables.keys ≡ put_all var_cmp [] (in_formulas own_variables (sequent_at (S.trees store.now) s.now))) }
+    ensures functions { IfOk result (λ symbols.
+        symbols.functions.keys ≡ put_all (slice_cmp nat_cmp) [] (in_formulas own_functions (sequent_at (S.trees store.now) s.now))) }
 {
     let mut symbols = Symbols::new(alloc);
     symbols.add_trees(store, s.ante.as_slice(), steps)?;
@@ -86,7 +89,8 @@ fn declare_free<S: Store>(
     out: &mut Vec<u8>,
 ) -> Result<(), PrintFault>
     requires { IsKnown (S.trees store.now) s.now }
-    ensures { OnOk result (out.new.items ≡ out.old.items ++ (if in_some_formula (λ t. free t v.now) (sequent_at (S.trees store.now) s.now) then declaration (variable_symbol v.now) else [])) }
+    ensures { OnOk result (out.new.items ≡ out.old.items ++
+        (if in_some_formula (λ t. free t v.now) (sequent_at (S.trees store.now) s.now) then declaration (variable_symbol v.now) else [])) }
 {
     if is_free(store, s, v) {
         declare_variable(v, out)
@@ -103,7 +107,8 @@ fn declare_variables<S: Store>(
     out: &mut Vec<u8>,
 ) -> Result<(), PrintFault>
     requires { IsKnown (S.trees store.now) s.now }
-    ensures { OnOk result (out.new.items ≡ out.old.items ++ declarations (map variable_symbol (filter (λ v. in_some_formula (λ t. free t v) (sequent_at (S.trees store.now) s.now)) vars.now))) }
+    ensures { OnOk result (out.new.items ≡ out.old.items ++
+        declarations (map variable_symbol (filter (λ v. in_some_formula (λ t. free t v) (sequent_at (S.trees store.now) s.now)) vars.now))) }
 {
     for v in vars {
         declare_free(store, s, v, out)?;

@@ -4,7 +4,8 @@ ghost use Rattle.dlk_tree.specs.Trees.{node, root};
 ghost use Rattle.dlk_tree.specs.Statics.{plain};
 ghost use Rattle.dlk_tree.specs.declared.op.Op.TheVariants.{Number};
 ghost use Rattle.dlk_store.specs.Stores.{IsId, tree, kid_trees};
-ghost use Rattle.dlk_smt.specs.Smt.{shown, shown_all, call, quantify, negation, next, none, first, times, power, exponent, real, symbol, base_symbol, variable_symbol, expression, expressions};
+ghost use Rattle.dlk_smt.specs.Smt.{shown, shown_all, call, quantify, negation, next, none, first, times, power, exponent, real, symbol, base_symbol};
+ghost use Rattle.dlk_smt.specs.Smt.{variable_symbol, expression, expressions};
 
 use crate::power::exponent;
 use crate::symbol::{append_function, append_unprimed, append_variable};
@@ -156,7 +157,8 @@ fn append_unequal<S: Store, L: Ledger>(
     steps: &mut Steps<L>,
 ) -> Result<(), PrintFault>
     requires { All (IsId (S.trees store.now)) kids.now }
-    ensures { OnOk result (out.new.items ≡ out.old.items ++ shown (negation (next (call (codes "=") (expressions (kid_trees (S.trees store.now) kids.now))) none))) }
+    ensures { OnOk result (out.new.items ≡ out.old.items ++
+        shown (negation (next (call (codes "=") (expressions (kid_trees (S.trees store.now) kids.now))) none))) }
 {
     append(out, b"(not ")?;
     append_call(store, b"=", kids, out, steps)?;
@@ -174,7 +176,8 @@ fn append_quantified<S: Store, L: Ledger>(
     steps: &mut Steps<L>,
 ) -> Result<(), PrintFault>
     requires { All (IsId (S.trees store.now)) kids.now }
-    ensures { OnOk result (out.new.items ≡ out.old.items ++ shown (quantify word.now (variable_symbol (plain x.now)) (first (expressions (kid_trees (S.trees store.now) kids.now))))) }
+    ensures { OnOk result (out.new.items ≡ out.old.items ++
+        shown (quantify word.now (variable_symbol (plain x.now)) (first (expressions (kid_trees (S.trees store.now) kids.now))))) }
 {
     append(out, b"(")?;
     append(out, word)?;
@@ -194,7 +197,8 @@ fn append_power<S: Store, L: Ledger>(
     steps: &mut Steps<L>,
 ) -> Result<(), PrintFault>
     requires { All (IsId (S.trees store.now)) kids.now }
-    ensures { let trees = kid_trees (S.trees store.now) kids.now in OnOk result (out.new.items ≡ out.old.items ++ shown (power (exponent trees) (first (expressions trees)))) }
+    ensures { let trees = kid_trees (S.trees store.now) kids.now in
+        OnOk result (out.new.items ≡ out.old.items ++ shown (power (exponent trees) (first (expressions trees)))) }
 {
     let Some(count) = exponent(store, kids, steps) else {
         return append(out, b"");

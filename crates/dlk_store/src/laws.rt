@@ -8,7 +8,7 @@ ghost use Rattle.dlk_store.specs.Listings.{IsListingOf};
 use crate::listing::Listing;
 use dlk_tree::Sym;
 
-/// A set has at most one listing.
+/// A set has at most one listing. The statement of the static semantics asks for it.
 pub fn one_listing(a: &Listing, b: &Listing)
     ghost set: { Var → Bool }
     requires first { IsListingOf set a.now }
@@ -16,7 +16,7 @@ pub fn one_listing(a: &Listing, b: &Listing)
     ensures { a.now ≡ b.now }
 {}
 
-/// A tree has at most one signature.
+/// A tree has at most one signature. The statement of the static semantics asks for it.
 pub fn one_signature(a: &[Sym], b: &[Sym])
     ghost t: { Tree }
     requires first { IsSignature t a.now }

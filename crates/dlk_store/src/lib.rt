@@ -60,8 +60,8 @@ impl<T: Drop> From<AllocFailed<T>> for StoreFault {
     }
 }
 
-/// Trees by their ids. The ids that a call is given are those of the store. A store only grows: every id that it had still stands for the same tree, whatever was called and
-/// whatever that answered.
+/// Trees by their ids. The ids that a call is given are those of the store. A store only grows: every id that it had
+/// still stands for the same tree, whatever was called and whatever that answered.
 pub trait Store {
     /// What the ids stand for, in order of the ids.
     ghost trees: { Self → List Tree };
@@ -83,8 +83,8 @@ pub trait Store {
         ensures made { IfOk result (λ id. StandsFor (trees self.new) id (node op (kid_trees (trees self.old) kids.now))) }
         ensures grows { grows self.old self.new };
 
-    /// An id of the tree with the operator of the tree `like` and these kids, which are ids of the store whose sorts fit the operator. The operator is neither shown nor
-    /// copied by its name, and no step is counted.
+    /// An id of the tree with the operator of the tree `like` and these kids, which are ids of the store whose sorts
+    /// fit the operator. The operator is neither shown nor copied by its name, and no step is counted.
     ///
     /// # Errors
     ///

@@ -56,7 +56,8 @@ fn run_once<S: Store, L: Ledger>(
     requires known { AtomIsKnown (S.trees kernel.old.store) atom.now }
     requires fitting { IsFitting (atom_at (S.trees kernel.old.store) atom.now) }
     requires fixed { HasNoLocator (atom_at (S.trees kernel.old.store) atom.now) }
-    ensures fate { Becomes (Once (atom_at (S.trees kernel.old.store) atom.now) goal) (now S.trees kernel.old trace.old) (now S.trees kernel.new trace.new) result }
+    ensures fate { Becomes (Once (atom_at (S.trees kernel.old.store) atom.now) goal) (now S.trees kernel.old trace.old)
+        (now S.trees kernel.new trace.new) result }
     ensures memory { result ≡ Err Memory → AsksOrUses (facts S.trees kernel.old) (length kernel.old.rows) goal (atom_at (S.trees kernel.old.store) atom.now) }
     ensures extends { UnlessOver (Extends S.trees kernel.old trace.old kernel.new trace.new) result }
     ensures rows { ExtendsRows S.trees kernel.old kernel.new }
@@ -174,7 +175,8 @@ fn try_places<S: Store, L: Ledger>(
     requires ready { IsReady S.trees kernel.old trace.old goal 1 }
     requires known { AtomIsKnown (S.trees kernel.old.store) atom.now }
     requires fitting { IsFitting (atom_at (S.trees kernel.old.store) atom.now) }
-    ensures fate { Becomes (TriesAll (atom_at (S.trees kernel.old.store) atom.now) side goal) (now S.trees kernel.old trace.old) (now S.trees kernel.new trace.new) result }
+    ensures fate { Becomes (TriesAll (atom_at (S.trees kernel.old.store) atom.now) side goal) (now S.trees kernel.old trace.old)
+        (now S.trees kernel.new trace.new) result }
     ensures extends { UnlessOver (Extends S.trees kernel.old trace.old kernel.new trace.new) result }
     ensures rows { ExtendsRows S.trees kernel.old kernel.new }
     ensures left { IfOk result (HasLeft (goals_of S.trees kernel.old) 1 (goals_of S.trees kernel.new)) }
@@ -207,7 +209,8 @@ pub(crate) fn run_atom<S: Store, L: Ledger>(
     requires ready { IsReady S.trees kernel.old trace.old goal 1 }
     requires known { AtomIsKnown (S.trees kernel.old.store) atom.now }
     requires fitting { IsFitting (atom_at (S.trees kernel.old.store) atom.now) }
-    ensures fate { Becomes (RunAtom (atom_at (S.trees kernel.old.store) atom.now) goal) (now S.trees kernel.old trace.old) (now S.trees kernel.new trace.new) result }
+    ensures fate { Becomes (RunAtom (atom_at (S.trees kernel.old.store) atom.now) goal) (now S.trees kernel.old trace.old)
+        (now S.trees kernel.new trace.new) result }
     ensures extends { UnlessOver (Extends S.trees kernel.old trace.old kernel.new trace.new) result }
     ensures rows { ExtendsRows S.trees kernel.old kernel.new }
     ensures left { IfOk result (HasLeft (goals_of S.trees kernel.old) 1 (goals_of S.trees kernel.new)) }

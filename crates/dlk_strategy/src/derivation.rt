@@ -33,7 +33,8 @@ pub(crate) fn run_named<S: Store, L: Ledger>(
     requires ready { IsReady S.trees kernel.old trace.old goal 1 }
     requires known { AtomIsKnown (S.trees kernel.old.store) atom.now }
     requires run { IsRun (atom_at (S.trees kernel.old.store) atom.now) }
-    ensures fate { Becomes (RunNamed (atom_at (S.trees kernel.old.store) atom.now) goal) (now S.trees kernel.old trace.old) (now S.trees kernel.new trace.new) result }
+    ensures fate { Becomes (RunNamed (atom_at (S.trees kernel.old.store) atom.now) goal) (now S.trees kernel.old trace.old)
+        (now S.trees kernel.new trace.new) result }
     ensures extends { UnlessOver (Extends S.trees kernel.old trace.old kernel.new trace.new) result }
     ensures rows { ExtendsRows S.trees kernel.old kernel.new }
     ensures left { IfOk result (HasLeft (goals_of S.trees kernel.old) 1 (goals_of S.trees kernel.new)) }
@@ -77,7 +78,8 @@ fn derive<S: Store, L: Ledger>(
 ) -> Result<u32, RunFault>
     requires ready { IsReady S.trees kernel.old trace.old goal 1 }
     requires derivation { IsDerivation (atom_at (S.trees kernel.old.store) atom.now) }
-    ensures fate { Becomes (RunDerive (atom_at (S.trees kernel.old.store) atom.now) goal) (now S.trees kernel.old trace.old) (now S.trees kernel.new trace.new) result }
+    ensures fate { Becomes (RunDerive (atom_at (S.trees kernel.old.store) atom.now) goal) (now S.trees kernel.old trace.old)
+        (now S.trees kernel.new trace.new) result }
     ensures memory { result ≡ Err Memory → HasPlan (facts S.trees kernel.old) goal (atom_at (S.trees kernel.old.store) atom.now) }
     ensures extends { UnlessOver (Extends S.trees kernel.old trace.old kernel.new trace.new) result }
     ensures rows { ExtendsRows S.trees kernel.old kernel.new }
@@ -113,7 +115,8 @@ fn one_by_one<S: Store, L: Ledger>(
     requires ready { IsReady S.trees kernel.old trace.old goal 1 }
     requires known { All (AtomIsKnown (S.trees kernel.old.store)) atoms.items }
     requires fitting { All IsFitting (map (atom_at (S.trees kernel.old.store)) atoms.items) }
-    ensures fate { Becomes (OneByOne (map (at_byte at) (map (atom_at (S.trees kernel.old.store)) atoms.items)) 1 goal) (now S.trees kernel.old trace.old) (now S.trees kernel.new trace.new) result }
+    ensures fate { Becomes (OneByOne (map (at_byte at) (map (atom_at (S.trees kernel.old.store)) atoms.items)) 1 goal) (now S.trees kernel.old trace.old)
+        (now S.trees kernel.new trace.new) result }
     ensures extends { UnlessOver (Extends S.trees kernel.old trace.old kernel.new trace.new) result }
     ensures rows { ExtendsRows S.trees kernel.old kernel.new }
     ensures left { IfOk result (HasLeft (goals_of S.trees kernel.old) 1 (goals_of S.trees kernel.new)) }
@@ -142,7 +145,8 @@ fn on_each<S: Store, L: Ledger>(
     requires ready { IsReady S.trees kernel.old trace.old goal goals }
     requires known { AtomIsKnown (S.trees kernel.old.store) atom.now }
     requires fitting { IsFitting (atom_at (S.trees kernel.old.store) atom.now) }
-    ensures fate { Becomes (OnEach (RunAtom (atom_at (S.trees kernel.old.store) atom.now)) goals goal) (now S.trees kernel.old trace.old) (now S.trees kernel.new trace.new) result }
+    ensures fate { Becomes (OnEach (RunAtom (atom_at (S.trees kernel.old.store) atom.now)) goals goal) (now S.trees kernel.old trace.old)
+        (now S.trees kernel.new trace.new) result }
     ensures extends { UnlessOver (Extends S.trees kernel.old trace.old kernel.new trace.new) result }
     ensures rows { ExtendsRows S.trees kernel.old kernel.new }
     ensures left { IfOk result (HasLeft (goals_of S.trees kernel.old) goals (goals_of S.trees kernel.new)) }

@@ -43,7 +43,8 @@ pub fn run_is_taken()
 /// What the steps of a run that is done replace are symbols, where the names of its atoms are names and what they are given to replace are
 /// symbols.
 pub fn run_has_symbols()
-    ensures { (t : Tactic) (formula : Tree) (made : Progress) (left : ℕ) → EachAtom HasNames t → RunsModel t formula (Done made left) → All ReplacesSymbols made.steps }
+    ensures { (t : Tactic) (formula : Tree) (made : Progress) (left : ℕ) → EachAtom HasNames t → RunsModel t formula (Done made left) →
+        All ReplacesSymbols made.steps }
 {
     atom_is_taken();
     history_derives();
@@ -55,21 +56,26 @@ pub fn run_has_symbols()
 
 /// The last row of a run that is done shows its formula.
 pub fn run_shows_formula()
-    ensures { (t : Tactic) (formula : Tree) (made : Progress) (left : ℕ) → RunsModel t formula (Done made left) → (p : Provable) × At made.rows (length made.rows) p × (p.conclusion ≡ alone_right formula) }
+    ensures { (t : Tactic) (formula : Tree) (made : Progress) (left : ℕ) → RunsModel t formula (Done made left) →
+        (p : Provable) × At made.rows (length made.rows) p × (p.conclusion ≡ alone_right formula) }
 {
     atom_replaces_goal();
 }
 
 /// The uses of axioms that `derive` runs become what they become as parts of a sequence.
+/// The statement of strategies asks for it.
 pub fn derive_runs_as_sequence()
-    ensures sequence { (byte : ℕ) (place : Place) (calls : List Call) (goals goal : ℕ) (now : Progress) (o : Outcome) → OneByOne (map (use_of byte place) calls) goals goal now o → InTurn (parts (map (λ call. One (use_of byte place call)) calls)) goals goal now o }
-    ensures uses { (byte : ℕ) (place : Place) (calls : List Call) (goals goal : ℕ) (now : Progress) (o : Outcome) → InTurn (parts (map (λ call. One (use_of byte place call)) calls)) goals goal now o → OneByOne (map (use_of byte place) calls) goals goal now o }
+    ensures sequence { (byte : ℕ) (place : Place) (calls : List Call) (goals goal : ℕ) (now : Progress) (o : Outcome) →
+        OneByOne (map (use_of byte place) calls) goals goal now o → InTurn (parts (map (λ call. One (use_of byte place call)) calls)) goals goal now o }
+    ensures uses { (byte : ℕ) (place : Place) (calls : List Call) (goals goal : ℕ) (now : Progress) (o : Outcome) →
+        InTurn (parts (map (λ call. One (use_of byte place call)) calls)) goals goal now o → OneByOne (map (use_of byte place) calls) goals goal now o }
 {}
 
 /// `derive` alone, on a model of at most 150 nodes where the kid of the `( )'` at its place has a derivative, is done: the last row has one goal,
 /// the model with the derivative at the place, and its leaves are the conditions on exponents, each once.
 pub fn derive_differentiates()
-    ensures { (byte : ℕ) (model k d : Tree) (path : List ℕ) → Derivable model path k d → (made : Progress) × RunsModel (derive_at byte path) model (Done made 1) × IsDifferentiated made.rows (length made.rows) model path k d }
+    ensures { (byte : ℕ) (model k d : Tree) (path : List ℕ) → Derivable model path k d →
+        (made : Progress) × RunsModel (derive_at byte path) model (Done made 1) × IsDifferentiated made.rows (length made.rows) model path k d }
 {
     derivative_is_reached();
 }
@@ -86,7 +92,8 @@ pub fn one_outcome()
 
 /// A strategy whose atoms are those of a text, with names that are names, has an outcome on each formula within the limits.
 pub fn some_outcome()
-    ensures { (t : Tactic) (formula : Tree) → AreOfText t → EachAtom HasNames t → IsFormula formula → IsSmall formula → IsShallow formula → (o : Outcome) × RunsModel t formula o }
+    ensures { (t : Tactic) (formula : Tree) → AreOfText t → EachAtom HasNames t → IsFormula formula → IsSmall formula → IsShallow formula →
+        (o : Outcome) × RunsModel t formula o }
 {
     atom_is_taken();
     history_derives();
@@ -109,7 +116,8 @@ pub fn one_outcome_on()
 
 /// A strategy whose atoms are those of a text, with names that are names, has an outcome on each goal of the last of rows that steps give.
 pub fn some_outcome_on()
-    ensures { (t : Tactic) (steps : List Step) (rows : List Provable) (goal used : ℕ) → AreOfText t → EachAtom HasNames t → Takes [] steps rows → IsPlace (main_goals rows) goal → (o : Outcome) × RunsOn t rows goal used o }
+    ensures { (t : Tactic) (steps : List Step) (rows : List Provable) (goal used : ℕ) → AreOfText t → EachAtom HasNames t → Takes [] steps rows →
+        IsPlace (main_goals rows) goal → (o : Outcome) × RunsOn t rows goal used o }
 {
     atom_is_taken();
     history_derives();
@@ -124,8 +132,10 @@ pub fn some_outcome_on()
 /// The steps that a run on a goal makes are taken in turn behind the rows, and give its rows. Their names are names, and their replacements well
 /// made.
 pub fn run_on_is_taken()
-    ensures taken { (t : Tactic) (rows : List Provable) (goal used : ℕ) (made : Progress) (left : ℕ) → RunsOn t rows goal used (Done made left) → Takes rows made.steps made.rows }
-    ensures proper { (t : Tactic) (rows : List Provable) (goal used : ℕ) (made : Progress) (left : ℕ) → RunsOn t rows goal used (Done made left) → All IsProper made.steps }
+    ensures taken { (t : Tactic) (rows : List Provable) (goal used : ℕ) (made : Progress) (left : ℕ) → RunsOn t rows goal used (Done made left) →
+        Takes rows made.steps made.rows }
+    ensures proper { (t : Tactic) (rows : List Provable) (goal used : ℕ) (made : Progress) (left : ℕ) → RunsOn t rows goal used (Done made left) →
+        All IsProper made.steps }
 {
     atom_is_taken();
 }
@@ -133,7 +143,8 @@ pub fn run_on_is_taken()
 /// What the steps replace that a run on a goal makes are symbols, where the names of its atoms are names and what they are given to replace are
 /// symbols.
 pub fn run_on_has_symbols()
-    ensures { (t : Tactic) (steps : List Step) (rows : List Provable) (goal used : ℕ) (made : Progress) (left : ℕ) → EachAtom HasNames t → Takes [] steps rows → RunsOn t rows goal used (Done made left) → All ReplacesSymbols made.steps }
+    ensures { (t : Tactic) (steps : List Step) (rows : List Provable) (goal used : ℕ) (made : Progress) (left : ℕ) → EachAtom HasNames t → Takes [] steps rows →
+        RunsOn t rows goal used (Done made left) → All ReplacesSymbols made.steps }
 {
     atom_is_taken();
     history_derives();
@@ -145,22 +156,27 @@ pub fn run_on_has_symbols()
 
 /// The last row of a run on a goal shows what the last of the rows shows on which it ran.
 pub fn run_on_keeps_conclusion()
-    ensures { (t : Tactic) (rows : List Provable) (goal used : ℕ) (made : Progress) (left : ℕ) (p : Provable) → At rows (length rows) p → RunsOn t rows goal used (Done made left) → (q : Provable) × At made.rows (length made.rows) q × (q.conclusion ≡ p.conclusion) }
+    ensures { (t : Tactic) (rows : List Provable) (goal used : ℕ) (made : Progress) (left : ℕ) (p : Provable) → At rows (length rows) p →
+        RunsOn t rows goal used (Done made left) → (q : Provable) × At made.rows (length made.rows) q × (q.conclusion ≡ p.conclusion) }
 {
     atom_replaces_goal();
 }
 
 /// A run on a goal counts on from the atoms that were run before, up to 16,000, and makes at most 24 steps for each that it counts.
 pub fn run_on_is_counted()
-    ensures done { (t : Tactic) (rows : List Provable) (goal used : ℕ) (made : Progress) (left : ℕ) → used ≤ most_runs → RunsOn t rows goal used (Done made left) → (used ≤ made.used) × (made.used ≤ most_runs) × (length made.steps ≤ most_steps * (made.used - used)) }
-    ensures fails { (t : Tactic) (rows : List Provable) (goal used at count : ℕ) (why : FailWhy) → used ≤ most_runs → RunsOn t rows goal used (Fails at why count) → (used ≤ count) × (count ≤ most_runs) }
+    ensures done { (t : Tactic) (rows : List Provable) (goal used : ℕ) (made : Progress) (left : ℕ) → used ≤ most_runs →
+        RunsOn t rows goal used (Done made left) → (used ≤ made.used) × (made.used ≤ most_runs) × (length made.steps ≤ most_steps * (made.used - used)) }
+    ensures fails { (t : Tactic) (rows : List Provable) (goal used at count : ℕ) (why : FailWhy) → used ≤ most_runs →
+        RunsOn t rows goal used (Fails at why count) → (used ≤ count) × (count ≤ most_runs) }
 {
     atom_makes_few();
 }
 
 /// Where there is room for all rows that the atoms still to be run can make, a run on a goal doesn't fail since there are 400,000 rows.
+/// The statement of strategies asks for it.
 pub fn run_on_has_room()
-    ensures { (t : Tactic) (rows : List Provable) (goal used at count : ℕ) → length rows + most_steps * (most_runs - used) ≤ most_rows → RunsOn t rows goal used (Fails at (AtStep LinesFull) count) → ⊥ }
+    ensures { (t : Tactic) (rows : List Provable) (goal used at count : ℕ) → length rows + most_steps * (most_runs - used) ≤ most_rows →
+        RunsOn t rows goal used (Fails at (AtStep LinesFull) count) → ⊥ }
 {
     atom_is_taken();
     atom_makes_few();
@@ -168,13 +184,19 @@ pub fn run_on_has_room()
 }
 
 /// A run doesn't look at the steps that were made before: with more of them it makes the same behind them.
+/// The statement of strategies asks for it.
 pub fn run_ignores_steps()
-    ensures more { (t : Tactic) (goals goal : ℕ) (before : List Step) (now : Progress) (o : Outcome) → Runs t goals goal now o → Runs t goals goal (moved before now) (behind before o) }
-    ensures fewer { (t : Tactic) (goals goal : ℕ) (before : List Step) (now : Progress) (o : Outcome) → Runs t goals goal (moved before now) o → (made : Outcome) × Runs t goals goal now made × (o ≡ behind before made) }
+    ensures more { (t : Tactic) (goals goal : ℕ) (before : List Step) (now : Progress) (o : Outcome) → Runs t goals goal now o →
+        Runs t goals goal (moved before now) (behind before o) }
+    ensures fewer { (t : Tactic) (goals goal : ℕ) (before : List Step) (now : Progress) (o : Outcome) → Runs t goals goal (moved before now) o →
+        (made : Outcome) × Runs t goals goal now made × (o ≡ behind before made) }
 {}
 
 /// A run on a model is the run on the goal of the row that states it, behind the step that does.
+/// The statement of strategies asks for it.
 pub fn model_runs_on_goal()
-    ensures goal { (t : Tactic) (formula : Tree) (o : Outcome) → RunsModel t formula o → (p : Provable) × StepOf [] (Start (alone_right formula)) p × (made : Outcome) × RunsOn t (p ∷ []) 1 0 made × (o ≡ behind (Start (alone_right formula) ∷ []) made) }
-    ensures model { (t : Tactic) (formula : Tree) (p : Provable) (o : Outcome) → StepOf [] (Start (alone_right formula)) p → RunsOn t (p ∷ []) 1 0 o → RunsModel t formula (behind (Start (alone_right formula) ∷ []) o) }
+    ensures goal { (t : Tactic) (formula : Tree) (o : Outcome) → RunsModel t formula o → (p : Provable) × StepOf [] (Start (alone_right formula)) p ×
+        (made : Outcome) × RunsOn t (p ∷ []) 1 0 made × (o ≡ behind (Start (alone_right formula) ∷ []) made) }
+    ensures model { (t : Tactic) (formula : Tree) (p : Provable) (o : Outcome) → StepOf [] (Start (alone_right formula)) p → RunsOn t (p ∷ []) 1 0 o →
+        RunsModel t formula (behind (Start (alone_right formula) ∷ []) o) }
 {}

@@ -52,7 +52,8 @@ pub fn run_on<S: Store, L: Ledger>(
     requires runnable { IsStrategy (S.trees kernel.old.store) strategy.now }
     requires goal { IsPlace (main_goals (facts S.trees kernel.old)) goal }
     requires used { used ≤ most_runs }
-    ensures done { IfOk result (λ more. RunsOn (tactic_at (S.trees kernel.old.store) strategy.now) (facts S.trees kernel.old) goal used (IsDone (progress_at S.trees kernel.new more.steps.items more.used) more.count)) }
+    ensures done { IfOk result (λ more. RunsOn (tactic_at (S.trees kernel.old.store) strategy.now) (facts S.trees kernel.old) goal used
+        (IsDone (progress_at S.trees kernel.new more.steps.items more.used) more.count)) }
     ensures known { IfOk result (λ more. All (HasKnownIds (S.trees kernel.new.store)) more.steps.items) }
     ensures kept { OnOk result (ExtendsRows S.trees kernel.old kernel.new) }
     ensures fault { IfErr result (IsOnFaultOf (RunsOn (tactic_at (S.trees kernel.old.store) strategy.now) (facts S.trees kernel.old) goal used)) }

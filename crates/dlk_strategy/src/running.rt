@@ -4,7 +4,8 @@ ghost use Rattle.dlk_calculus.specs.Limits.{most_goals};
 ghost use Rattle.dlk_kernel.specs.Kernel.{facts, ExtendsRows};
 ghost use Rattle.dlk_tacsyn.specs.Ties.{tactic_at};
 ghost use Rattle.dlk_strategy.specs.Runs.{Runs, Alternatives, InTurn, OnOwn, Branched, Again};
-ghost use Rattle.dlk_strategy.specs.Ties.{goals_of, now, on_one, tactics_of, IsReady, IsRunnable, Extends, IsBack, Becomes, BecomesTried, UnlessOver, IsBackOnNone, HasLeft};
+ghost use Rattle.dlk_strategy.specs.Ties.{goals_of, now, on_one, tactics_of, IsReady, IsRunnable, Extends, IsBack, Becomes, BecomesTried, UnlessOver};
+ghost use Rattle.dlk_strategy.specs.Ties.{IsBackOnNone, HasLeft};
 
 use crate::derivation::run_named;
 use crate::fault::RunFault;
@@ -29,7 +30,8 @@ pub(crate) fn run_goals<S: Store, L: Ledger>(
 ) -> Result<u32, RunFault>
     requires ready { IsReady S.trees kernel.old trace.old goal goals }
     requires runnable { IsRunnable (S.trees kernel.old.store) t.now }
-    ensures fate { Becomes (Runs (tactic_at (S.trees kernel.old.store) t.now) goals goal) (now S.trees kernel.old trace.old) (now S.trees kernel.new trace.new) result }
+    ensures fate { Becomes (Runs (tactic_at (S.trees kernel.old.store) t.now) goals goal) (now S.trees kernel.old trace.old)
+        (now S.trees kernel.new trace.new) result }
     ensures extends { UnlessOver (Extends S.trees kernel.old trace.old kernel.new trace.new) result }
     ensures rows { ExtendsRows S.trees kernel.old kernel.new }
     ensures left { IfOk result (HasLeft (goals_of S.trees kernel.old) goals (goals_of S.trees kernel.new)) }
@@ -67,7 +69,8 @@ fn run_one<S: Store, L: Ledger>(
 ) -> Result<u32, RunFault>
     requires ready { IsReady S.trees kernel.old trace.old goal 1 }
     requires runnable { IsRunnable (S.trees kernel.old.store) t.now }
-    ensures fate { Becomes (on_one (tactic_at (S.trees kernel.old.store) t.now) goal) (now S.trees kernel.old trace.old) (now S.trees kernel.new trace.new) result }
+    ensures fate { Becomes (on_one (tactic_at (S.trees kernel.old.store) t.now) goal) (now S.trees kernel.old trace.old)
+        (now S.trees kernel.new trace.new) result }
     ensures extends { UnlessOver (Extends S.trees kernel.old trace.old kernel.new trace.new) result }
     ensures rows { ExtendsRows S.trees kernel.old kernel.new }
     ensures left { IfOk result (HasLeft (goals_of S.trees kernel.old) 1 (goals_of S.trees kernel.new)) }
@@ -97,7 +100,8 @@ fn attempt<S: Store, L: Ledger>(
 ) -> Result<Option<u32>, RunFault>
     requires ready { IsReady S.trees kernel.old trace.old goal 1 }
     requires runnable { IsRunnable (S.trees kernel.old.store) t.now }
-    ensures fate { BecomesTried (Runs (tactic_at (S.trees kernel.old.store) t.now) 1 goal) (now S.trees kernel.old trace.old) (now S.trees kernel.new trace.new) result }
+    ensures fate { BecomesTried (Runs (tactic_at (S.trees kernel.old.store) t.now) 1 goal) (now S.trees kernel.old trace.old)
+        (now S.trees kernel.new trace.new) result }
     ensures extends { UnlessOver (Extends S.trees kernel.old trace.old kernel.new trace.new) result }
     ensures rows { ExtendsRows S.trees kernel.old kernel.new }
     ensures back { IsBackOnNone (IsBack S.trees kernel.old trace.old kernel.new trace.new) result }
@@ -129,7 +133,8 @@ fn choose<S: Store, L: Ledger>(
 ) -> Result<u32, RunFault>
     requires ready { IsReady S.trees kernel.old trace.old goal 1 }
     requires runnable { All (IsRunnable (S.trees kernel.old.store)) parts.now }
-    ensures fate { Becomes (Alternatives (tactics_of (S.trees kernel.old.store) parts.now) goal) (now S.trees kernel.old trace.old) (now S.trees kernel.new trace.new) result }
+    ensures fate { Becomes (Alternatives (tactics_of (S.trees kernel.old.store) parts.now) goal) (now S.trees kernel.old trace.old)
+        (now S.trees kernel.new trace.new) result }
     ensures extends { UnlessOver (Extends S.trees kernel.old trace.old kernel.new trace.new) result }
     ensures rows { ExtendsRows S.trees kernel.old kernel.new }
     ensures left { IfOk result (HasLeft (goals_of S.trees kernel.old) 1 (goals_of S.trees kernel.new)) }
@@ -159,7 +164,8 @@ fn in_turn<S: Store, L: Ledger>(
 ) -> Result<u32, RunFault>
     requires ready { IsReady S.trees kernel.old trace.old goal 1 }
     requires runnable { All (IsRunnable (S.trees kernel.old.store)) parts.now }
-    ensures fate { Becomes (InTurn (tactics_of (S.trees kernel.old.store) parts.now) 1 goal) (now S.trees kernel.old trace.old) (now S.trees kernel.new trace.new) result }
+    ensures fate { Becomes (InTurn (tactics_of (S.trees kernel.old.store) parts.now) 1 goal) (now S.trees kernel.old trace.old)
+        (now S.trees kernel.new trace.new) result }
     ensures extends { UnlessOver (Extends S.trees kernel.old trace.old kernel.new trace.new) result }
     ensures rows { ExtendsRows S.trees kernel.old kernel.new }
     ensures left { IfOk result (HasLeft (goals_of S.trees kernel.old) 1 (goals_of S.trees kernel.new)) }
@@ -187,7 +193,8 @@ fn branch<S: Store, L: Ledger>(
 ) -> Result<u32, RunFault>
     requires ready { IsReady S.trees kernel.old trace.old goal goals }
     requires runnable { All (IsRunnable (S.trees kernel.old.store)) parts.now }
-    ensures fate { Becomes (Branched at (length parts.now) goals (OnOwn (tactics_of (S.trees kernel.old.store) parts.now) goal 0)) (now S.trees kernel.old trace.old) (now S.trees kernel.new trace.new) result }
+    ensures fate { Becomes (Branched at (length parts.now) goals (OnOwn (tactics_of (S.trees kernel.old.store) parts.now) goal 0))
+        (now S.trees kernel.old trace.old) (now S.trees kernel.new trace.new) result }
     ensures extends { UnlessOver (Extends S.trees kernel.old trace.old kernel.new trace.new) result }
     ensures rows { ExtendsRows S.trees kernel.old kernel.new }
     ensures left { IfOk result (HasLeft (goals_of S.trees kernel.old) goals (goals_of S.trees kernel.new)) }
@@ -221,7 +228,8 @@ fn repeat<S: Store, L: Ledger>(
 ) -> Result<u32, RunFault>
     requires ready { IsReady S.trees kernel.old trace.old goal 1 }
     requires runnable { IsRunnable (S.trees kernel.old.store) body.now }
-    ensures fate { Becomes (Again (Runs (tactic_at (S.trees kernel.old.store) body.now) 1) times goal) (now S.trees kernel.old trace.old) (now S.trees kernel.new trace.new) result }
+    ensures fate { Becomes (Again (Runs (tactic_at (S.trees kernel.old.store) body.now) 1) times goal) (now S.trees kernel.old trace.old)
+        (now S.trees kernel.new trace.new) result }
     ensures extends { UnlessOver (Extends S.trees kernel.old trace.old kernel.new trace.new) result }
     ensures rows { ExtendsRows S.trees kernel.old kernel.new }
     ensures left { IfOk result (HasLeft (goals_of S.trees kernel.old) 1 (goals_of S.trees kernel.new)) }

@@ -59,12 +59,14 @@ pub fn run_strategy<S: Store, L: Ledger>(
     requires formula { IsFormula (tree (S.trees kernel.old.store) model) }
     requires small { IsSmall (tree (S.trees kernel.old.store) model) }
     requires shallow { IsShallow (tree (S.trees kernel.old.store) model) }
-    ensures done { IfOk result (λ done. (used : ℕ) × (left : ℕ) × RunsModel (tactic_at (S.trees kernel.old.store) strategy.now) (tree (S.trees kernel.old.store) model) (IsDone (progress_at S.trees kernel.new done.steps.items used) left)) }
+    ensures done { IfOk result (λ done. (used : ℕ) × (left : ℕ) × RunsModel (tactic_at (S.trees kernel.old.store) strategy.now)
+        (tree (S.trees kernel.old.store) model) (IsDone (progress_at S.trees kernel.new done.steps.items used) left)) }
     ensures fact { IfOk result (λ done. done.fact ≡ length kernel.new.rows) }
     ensures known { IfOk result (λ done. All (HasKnownIds (S.trees kernel.new.store)) done.steps.items) }
     ensures fault { IfErr result (IsRunFaultOf (RunsModel (tactic_at (S.trees kernel.old.store) strategy.now) (tree (S.trees kernel.old.store) model))) }
     ensures err { OnErr result (kernel.new.rows ≡ []) }
-    ensures derivative { Differentiates (tactic_at (S.trees kernel.old.store) strategy.now) (tree (S.trees kernel.old.store) model) (facts S.trees kernel.new) result }
+    ensures derivative { Differentiates (tactic_at (S.trees kernel.old.store) strategy.now) (tree (S.trees kernel.old.store) model)
+        (facts S.trees kernel.new) result }
     ensures grows { S.grows kernel.old.store kernel.new.store }
 {
     expansion_fits();
@@ -97,7 +99,8 @@ fn run_model<S: Store, L: Ledger>(
     requires formula { IsFormula (tree (S.trees kernel.old.store) model) }
     requires small { IsSmall (tree (S.trees kernel.old.store) model) }
     requires shallow { IsShallow (tree (S.trees kernel.old.store) model) }
-    ensures done { IfOk result (λ trace. (left : ℕ) × RunsPlain (tactic_at (S.trees kernel.old.store) strategy.now) (tree (S.trees kernel.old.store) model) (IsDone (progress_at S.trees kernel.new trace.steps.items trace.used) left)) }
+    ensures done { IfOk result (λ trace. (left : ℕ) × RunsPlain (tactic_at (S.trees kernel.old.store) strategy.now) (tree (S.trees kernel.old.store) model)
+        (IsDone (progress_at S.trees kernel.new trace.steps.items trace.used) left)) }
     ensures known { IfOk result (λ trace. All (HasKnownIds (S.trees kernel.new.store)) trace.steps.items) }
     ensures fault { IfErr result (IsRunFaultOf (RunsPlain (tactic_at (S.trees kernel.old.store) strategy.now) (tree (S.trees kernel.old.store) model))) }
     ensures grows { S.grows kernel.old.store kernel.new.store }

@@ -76,7 +76,8 @@ fn is_safe<S: Store>(store: &S, pair: &Pair, scope: &Scope, kids: &[Id]) -> bool
     requires by { IsId (S.trees store.now) pair.now.by }
     requires scope { IsKnownScope (S.trees store.now) scope.now }
     requires kids { All (IsId (S.trees store.now)) kids.now }
-    ensures { IsTrue result ↔ (IsTrue ((kind_row pair.now.sym.kind).arguments && any_has (has_symbol pair.now.sym) (kid_trees (S.trees store.now) kids.now)) → AreApart (scope_set (S.trees store.now) scope.now) (free (tree (S.trees store.now) pair.now.by))) }
+    ensures { IsTrue result ↔ (IsTrue ((kind_row pair.now.sym.kind).arguments && any_has (has_symbol pair.now.sym) (kid_trees (S.trees store.now) kids.now)) →
+        AreApart (scope_set (S.trees store.now) scope.now) (free (tree (S.trees store.now) pair.now.by))) }
 {
     !kind_row(pair.sym.kind).arguments
         || is_apart(store, scope, pair.by)
@@ -89,7 +90,8 @@ pub fn is_admissible<S: Store>(store: &S, pairs: &[Pair], scope: &Scope, kids: &
     requires pairs { AreKnownPairs (S.trees store.now) pairs.now }
     requires scope { IsKnownScope (S.trees store.now) scope.now }
     requires kids { All (IsId (S.trees store.now)) kids.now }
-    ensures { IsTrue result ↔ IsAdmissible (pairs_at (S.trees store.now) pairs.now) (scope_set (S.trees store.now) scope.now) (kid_trees (S.trees store.now) kids.now) }
+    ensures { IsTrue result ↔
+        IsAdmissible (pairs_at (S.trees store.now) pairs.now) (scope_set (S.trees store.now) scope.now) (kid_trees (S.trees store.now) kids.now) }
 {
     if matches!(scope, Scope::Nothing) {
         return true;
@@ -114,7 +116,8 @@ fn admits<S: Store>(
     requires pairs { AreKnownPairs (S.trees store.now) pairs.now }
     requires scope { IsKnownScope (S.trees store.now) (scope_by captures new.now made) }
     requires kids { All (IsId (S.trees store.now)) (reach_by captures old.now) }
-    ensures { IsTrue result ↔ IsAdmissible (pairs_at (S.trees store.now) pairs.now) (scope_set (S.trees store.now) (scope_by captures new.now made)) (kid_trees (S.trees store.now) (reach_by captures old.now)) }
+    ensures { IsTrue result ↔ IsAdmissible (pairs_at (S.trees store.now) pairs.now) (scope_set (S.trees store.now) (scope_by captures new.now made))
+        (kid_trees (S.trees store.now) (reach_by captures old.now)) }
 {
     let reached = captures.reach(old);
     let scope = captures.scope(new, made);
@@ -134,8 +137,10 @@ pub fn keep_admissible<S: Store>(
     requires old { All (IsId (S.trees store.old)) old.now }
     requires new { All (IsId (S.trees store.old)) new.now }
     requires fits { Fits op.now (sorts_at (S.trees store.old) new.now) }
-    ensures ok { IfOk result (IsResult (Stays (IsAdmissible (pairs_at (S.trees store.old) pairs.now)) op.now (kid_trees (S.trees store.old) old.now) (kid_trees (S.trees store.old) new.now)) (S.trees store.new)) }
-    ensures none { result ≡ Err NotAdmissible → HasNone (Stays (IsAdmissible (pairs_at (S.trees store.old) pairs.now)) op.now (kid_trees (S.trees store.old) old.now) (kid_trees (S.trees store.old) new.now)) }
+    ensures ok { IfOk result (IsResult (Stays (IsAdmissible (pairs_at (S.trees store.old) pairs.now)) op.now (kid_trees (S.trees store.old) old.now)
+        (kid_trees (S.trees store.old) new.now)) (S.trees store.new)) }
+    ensures none { result ≡ Err NotAdmissible → HasNone (Stays (IsAdmissible (pairs_at (S.trees store.old) pairs.now)) op.now
+        (kid_trees (S.trees store.old) old.now) (kid_trees (S.trees store.old) new.now)) }
     ensures grows { S.grows store.old store.new }
 {
     let made = store.make(alloc, op.clone()?, new)?;
@@ -163,8 +168,10 @@ pub fn keep_like<S: Store>(
     requires old { All (IsId (S.trees store.old)) old.now }
     requires new { All (IsId (S.trees store.old)) new.now }
     requires fits { Fits (root (tree (S.trees store.old) like)) (sorts_at (S.trees store.old) new.now) }
-    ensures ok { IfOk result (IsResult (Stays (IsAdmissible (pairs_at (S.trees store.old) pairs.now)) (root (tree (S.trees store.old) like)) (kid_trees (S.trees store.old) old.now) (kid_trees (S.trees store.old) new.now)) (S.trees store.new)) }
-    ensures none { result ≡ Err NotAdmissible → HasNone (Stays (IsAdmissible (pairs_at (S.trees store.old) pairs.now)) (root (tree (S.trees store.old) like)) (kid_trees (S.trees store.old) old.now) (kid_trees (S.trees store.old) new.now)) }
+    ensures ok { IfOk result (IsResult (Stays (IsAdmissible (pairs_at (S.trees store.old) pairs.now)) (root (tree (S.trees store.old) like))
+        (kid_trees (S.trees store.old) old.now) (kid_trees (S.trees store.old) new.now)) (S.trees store.new)) }
+    ensures none { result ≡ Err NotAdmissible → HasNone (Stays (IsAdmissible (pairs_at (S.trees store.old) pairs.now)) (root (tree (S.trees store.old) like))
+        (kid_trees (S.trees store.old) old.now) (kid_trees (S.trees store.old) new.now)) }
     ensures grows { S.grows store.old store.new }
 {
     let made = store.make_like(alloc, like, new)?;

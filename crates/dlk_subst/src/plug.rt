@@ -36,7 +36,8 @@ fn is_safe<S: Store>(store: &S, arg: Id, n: u8, scope: &Scope, kids: &[Id]) -> b
     requires arg { IsId (S.trees store.now) arg }
     requires scope { IsKnownScope (S.trees store.now) scope.now }
     requires kids { All (IsId (S.trees store.now)) kids.now }
-    ensures { IsTrue result ↔ (IsTrue (any_has (is_dot n) (kid_trees (S.trees store.now) kids.now)) → AreApart (scope_set (S.trees store.now) scope.now) (free (tree (S.trees store.now) arg))) }
+    ensures { IsTrue result ↔ (IsTrue (any_has (is_dot n) (kid_trees (S.trees store.now) kids.now)) →
+        AreApart (scope_set (S.trees store.now) scope.now) (free (tree (S.trees store.now) arg))) }
 {
     is_apart(store, scope, arg) || !any_has_dot(store, kids, n)
 }
@@ -48,7 +49,8 @@ pub fn is_clear<S: Store>(store: &S, args: &[Id], scope: &Scope, kids: &[Id]) ->
     requires args { All (IsId (S.trees store.now)) args.now }
     requires scope { IsKnownScope (S.trees store.now) scope.now }
     requires kids { All (IsId (S.trees store.now)) kids.now }
-    ensures { IsTrue result ↔ IsClear (args_at (S.trees store.now) args.now) (scope_set (S.trees store.now) scope.now) (kid_trees (S.trees store.now) kids.now) }
+    ensures { IsTrue result ↔
+        IsClear (args_at (S.trees store.now) args.now) (scope_set (S.trees store.now) scope.now) (kid_trees (S.trees store.now) kids.now) }
 {
     if matches!(scope, Scope::Nothing) {
         return true;
@@ -77,7 +79,8 @@ fn clears<S: Store>(
     requires args { All (IsId (S.trees store.now)) args.now }
     requires scope { IsKnownScope (S.trees store.now) (scope_by captures new.now made) }
     requires kids { All (IsId (S.trees store.now)) (reach_by captures old.now) }
-    ensures { IsTrue result ↔ IsClear (args_at (S.trees store.now) args.now) (scope_set (S.trees store.now) (scope_by captures new.now made)) (kid_trees (S.trees store.now) (reach_by captures old.now)) }
+    ensures { IsTrue result ↔ IsClear (args_at (S.trees store.now) args.now) (scope_set (S.trees store.now) (scope_by captures new.now made))
+        (kid_trees (S.trees store.now) (reach_by captures old.now)) }
 {
     let reached = captures.reach(old);
     let scope = captures.scope(new, made);
@@ -98,8 +101,10 @@ fn keep_clear<S: Store>(
     requires old { All (IsId (S.trees store.old)) old.now }
     requires new { All (IsId (S.trees store.old)) new.now }
     requires fits { Fits op.now (sorts_at (S.trees store.old) new.now) }
-    ensures ok { IfOk result (IsResult (Stays (IsClear (args_at (S.trees store.old) args.now)) op.now (kid_trees (S.trees store.old) old.now) (kid_trees (S.trees store.old) new.now)) (S.trees store.new)) }
-    ensures none { result ≡ Err NotAdmissible → HasNone (Stays (IsClear (args_at (S.trees store.old) args.now)) op.now (kid_trees (S.trees store.old) old.now) (kid_trees (S.trees store.old) new.now)) }
+    ensures ok { IfOk result (IsResult (Stays (IsClear (args_at (S.trees store.old) args.now)) op.now (kid_trees (S.trees store.old) old.now)
+        (kid_trees (S.trees store.old) new.now)) (S.trees store.new)) }
+    ensures none { result ≡ Err NotAdmissible → HasNone (Stays (IsClear (args_at (S.trees store.old) args.now)) op.now (kid_trees (S.trees store.old) old.now)
+        (kid_trees (S.trees store.old) new.now)) }
     ensures grows { S.grows store.old store.new }
 {
     let made = store.make(alloc, op.clone()?, new)?;
@@ -128,8 +133,10 @@ fn keep_clear_like<S: Store>(
     requires old { All (IsId (S.trees store.old)) old.now }
     requires new { All (IsId (S.trees store.old)) new.now }
     requires fits { Fits (root (tree (S.trees store.old) like)) (sorts_at (S.trees store.old) new.now) }
-    ensures ok { IfOk result (IsResult (Stays (IsClear (args_at (S.trees store.old) args.now)) (root (tree (S.trees store.old) like)) (kid_trees (S.trees store.old) old.now) (kid_trees (S.trees store.old) new.now)) (S.trees store.new)) }
-    ensures none { result ≡ Err NotAdmissible → HasNone (Stays (IsClear (args_at (S.trees store.old) args.now)) (root (tree (S.trees store.old) like)) (kid_trees (S.trees store.old) old.now) (kid_trees (S.trees store.old) new.now)) }
+    ensures ok { IfOk result (IsResult (Stays (IsClear (args_at (S.trees store.old) args.now)) (root (tree (S.trees store.old) like))
+        (kid_trees (S.trees store.old) old.now) (kid_trees (S.trees store.old) new.now)) (S.trees store.new)) }
+    ensures none { result ≡ Err NotAdmissible → HasNone (Stays (IsClear (args_at (S.trees store.old) args.now)) (root (tree (S.trees store.old) like))
+        (kid_trees (S.trees store.old) old.now) (kid_trees (S.trees store.old) new.now)) }
     ensures grows { S.grows store.old store.new }
 {
     let made = store.make_like(alloc, like, new)?;
@@ -154,8 +161,10 @@ pub fn plug_at<S: Store>(
     requires old { All (IsId (S.trees store.old)) old.now }
     requires new { All (IsId (S.trees store.old)) new.now }
     requires fits { Fits op.now (sorts_at (S.trees store.old) new.now) }
-    ensures ok { IfOk result (IsResult (PlugAt (args_at (S.trees store.old) args.now) op.now (kid_trees (S.trees store.old) old.now) (kid_trees (S.trees store.old) new.now)) (S.trees store.new)) }
-    ensures none { result ≡ Err NotAdmissible → HasNone (PlugAt (args_at (S.trees store.old) args.now) op.now (kid_trees (S.trees store.old) old.now) (kid_trees (S.trees store.old) new.now)) }
+    ensures ok { IfOk result (IsResult (PlugAt (args_at (S.trees store.old) args.now) op.now (kid_trees (S.trees store.old) old.now)
+        (kid_trees (S.trees store.old) new.now)) (S.trees store.new)) }
+    ensures none { result ≡ Err NotAdmissible →
+        HasNone (PlugAt (args_at (S.trees store.old) args.now) op.now (kid_trees (S.trees store.old) old.now) (kid_trees (S.trees store.old) new.now)) }
     ensures grows { S.grows store.old store.new }
 {
     let Op::Dot(n) = op else {
@@ -203,8 +212,10 @@ pub fn plug_like<S: Store>(
     requires old { All (IsId (S.trees store.old)) old.now }
     requires new { All (IsId (S.trees store.old)) new.now }
     requires fits { Fits (root (tree (S.trees store.old) like)) (sorts_at (S.trees store.old) new.now) }
-    ensures ok { IfOk result (IsResult (PlugAt (args_at (S.trees store.old) args.now) (root (tree (S.trees store.old) like)) (kid_trees (S.trees store.old) old.now) (kid_trees (S.trees store.old) new.now)) (S.trees store.new)) }
-    ensures none { result ≡ Err NotAdmissible → HasNone (PlugAt (args_at (S.trees store.old) args.now) (root (tree (S.trees store.old) like)) (kid_trees (S.trees store.old) old.now) (kid_trees (S.trees store.old) new.now)) }
+    ensures ok { IfOk result (IsResult (PlugAt (args_at (S.trees store.old) args.now) (root (tree (S.trees store.old) like))
+        (kid_trees (S.trees store.old) old.now) (kid_trees (S.trees store.old) new.now)) (S.trees store.new)) }
+    ensures none { result ≡ Err NotAdmissible → HasNone (PlugAt (args_at (S.trees store.old) args.now) (root (tree (S.trees store.old) like))
+        (kid_trees (S.trees store.old) old.now) (kid_trees (S.trees store.old) new.now)) }
     ensures grows { S.grows store.old store.new }
 {
     match effect {

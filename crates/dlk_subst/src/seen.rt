@@ -40,7 +40,8 @@ pub(crate) fn look_once<'a, S: Store, L: Ledger>(
     requires known { IsId (S.trees store.now) id }
     ensures id { IfOk result (λ s. s.id ≡ id) }
     ensures node { (all : List Tree) → AreSeen (S.trees store.now) all seen.old.items → IfOk result (IsSeen (S.trees store.now)) }
-    ensures sees { (all : List Tree) → Contains all (tree (S.trees store.now) id) → AreSeen (S.trees store.now) all seen.old.items → SeesMore (S.trees store.now) all seen.old.items seen.new.items steps.old steps.new }
+    ensures sees { (all : List Tree) → Contains all (tree (S.trees store.now) id) → AreSeen (S.trees store.now) all seen.old.items →
+        SeesMore (S.trees store.now) all seen.old.items seen.new.items steps.old steps.new }
 {
     if let Some(s) = find_seen(seen.as_slice(), id) {
         return Ok(s);

@@ -72,7 +72,8 @@ impl Spliced {
 
     /// What stands for a constant whose replacement has this node.
     fn put_replacement(&mut self, s: &Sym, seen: &Seen<'_>) -> Result<(), AllocError>
-        ensures { (trees : List Tree) → All WellMade trees → IsSeen trees seen.now → OnOk result (Puts trees (members_for s.now (Some (tree trees seen.now.id))) self.old self.new) }
+        ensures { (trees : List Tree) → All WellMade trees → IsSeen trees seen.now →
+            OnOk result (Puts trees (members_for s.now (Some (tree trees seen.now.id))) self.old self.new) }
     {
         match seen.op {
             Op::System(items) => self.put_system(items.items(), seen.kids),
@@ -91,8 +92,10 @@ impl Spliced {
     ) -> Result<(), AllocError>
         requires pairs { AreKnownPairs (S.trees store.now) pairs.now }
         requires seen { AreSeen (S.trees store.now) (replacement_subtrees (pairs_at (S.trees store.now) pairs.now)) seen.old.items }
-        ensures puts { OnOk result (Puts (S.trees store.now) (members_for s.now (replacement (pairs_at (S.trees store.now) pairs.now) s.now)) self.old self.new) }
-        ensures sees { SeesMore (S.trees store.now) (replacement_subtrees (pairs_at (S.trees store.now) pairs.now)) seen.old.items seen.new.items steps.old steps.new }
+        ensures puts { OnOk result
+            (Puts (S.trees store.now) (members_for s.now (replacement (pairs_at (S.trees store.now) pairs.now) s.now)) self.old self.new) }
+        ensures sees { SeesMore (S.trees store.now)
+            (replacement_subtrees (pairs_at (S.trees store.now) pairs.now)) seen.old.items seen.new.items steps.old steps.new }
     {
         let Some(by) = find(pairs, s) else {
             return self.put_symbol(s);
@@ -103,7 +106,8 @@ impl Spliced {
 
     /// An evolved variable stays, with the first of these kids as its right side; the others are left.
     fn put_evolved<'a>(&mut self, x: &Name, kids: &'a [Id]) -> Result<&'a [Id], AllocError>
-        ensures { (trees : List Tree) (pairs : List TreePair) → IfOk result (λ left. PutsItem trees pairs (OdeItem.Evolve x.now) kids.now self.old self.new left.now) }
+        ensures { (trees : List Tree) (pairs : List TreePair) →
+            IfOk result (λ left. PutsItem trees pairs (OdeItem.Evolve x.now) kids.now self.old self.new left.now) }
     {
         self.items.push(OdeItem::Evolve(x.clone()?))?;
         match kids.split_first() {
@@ -127,8 +131,10 @@ impl Spliced {
     ) -> Result<&'a [Id], AllocError>
         requires pairs { AreKnownPairs (S.trees store.now) pairs.now }
         requires seen { AreSeen (S.trees store.now) (replacement_subtrees (pairs_at (S.trees store.now) pairs.now)) seen.old.items }
-        ensures puts { IfOk result (λ left. PutsItem (S.trees store.now) (pairs_at (S.trees store.now) pairs.now) item.now kids.now self.old self.new left.now) }
-        ensures sees { SeesMore (S.trees store.now) (replacement_subtrees (pairs_at (S.trees store.now) pairs.now)) seen.old.items seen.new.items steps.old steps.new }
+        ensures puts { IfOk result (λ left.
+            PutsItem (S.trees store.now) (pairs_at (S.trees store.now) pairs.now) item.now kids.now self.old self.new left.now) }
+        ensures sees { SeesMore (S.trees store.now)
+            (replacement_subtrees (pairs_at (S.trees store.now) pairs.now)) seen.old.items seen.new.items steps.old steps.new }
     {
         match item {
             OdeItem::Evolve(x) => self.put_evolved(x, kids),
@@ -152,8 +158,10 @@ fn all_spliced<S: Store, L: Ledger>(
     requires pairs { AreKnownPairs (S.trees store.now) pairs.now }
     requires kids { All (IsId (S.trees store.now)) kids.now }
     requires fits { Fits (Op.System items.now) (sorts_at (S.trees store.now) kids.now) }
-    ensures items { IfOk result (λ new. new.items.items ≡ items_of (new_members (pairs_at (S.trees store.now) pairs.now) items.now (kid_trees (S.trees store.now) kids.now))) }
-    ensures kids { IfOk result (λ new. kid_trees (S.trees store.now) new.kids.items ≡ kids_of (new_members (pairs_at (S.trees store.now) pairs.now) items.now (kid_trees (S.trees store.now) kids.now)) (last (kid_trees (S.trees store.now) kids.now))) }
+    ensures items { IfOk result (λ new.
+        new.items.items ≡ items_of (new_members (pairs_at (S.trees store.now) pairs.now) items.now (kid_trees (S.trees store.now) kids.now))) }
+    ensures kids { IfOk result (λ new. kid_trees (S.trees store.now) new.kids.items ≡ kids_of (new_members (pairs_at (S.trees store.now) pairs.now) items.now
+        (kid_trees (S.trees store.now) kids.now)) (last (kid_trees (S.trees store.now) kids.now))) }
     ensures known { IfOk result (λ new. All (IsId (S.trees store.now)) new.kids.items) }
     ensures cost { IsTrue S.unique → steps.new ≤ steps.old + distinct_count (replacement_subtrees (pairs_at (S.trees store.now) pairs.now)) }
 {
@@ -193,8 +201,10 @@ fn keep_system<S: Store>(
     requires old { All (IsId (S.trees store.old)) old.now }
     requires new { All (IsId (S.trees store.old)) new.now }
     requires fits { (items : List OdeItem) → system.now ≡ Op.System items → IsTrue (are_items items) → Fits system.now (sorts_at (S.trees store.old) new.now) }
-    ensures ok { IfOk result (IsResult (Stays (IsAdmissible (pairs_at (S.trees store.old) pairs.now)) system.now (kid_trees (S.trees store.old) old.now) (kid_trees (S.trees store.old) new.now)) (S.trees store.new)) }
-    ensures none { result ≡ Err NotAdmissible → HasNone (λ t. Stays (IsAdmissible (pairs_at (S.trees store.old) pairs.now)) system.now (kid_trees (S.trees store.old) old.now) (kid_trees (S.trees store.old) new.now) t × WellMade t) }
+    ensures ok { IfOk result (IsResult (Stays (IsAdmissible (pairs_at (S.trees store.old) pairs.now)) system.now (kid_trees (S.trees store.old) old.now)
+        (kid_trees (S.trees store.old) new.now)) (S.trees store.new)) }
+    ensures none { result ≡ Err NotAdmissible → HasNone (λ t. Stays (IsAdmissible (pairs_at (S.trees store.old) pairs.now)) system.now
+        (kid_trees (S.trees store.old) old.now) (kid_trees (S.trees store.old) new.now) t × WellMade t) }
     ensures grows { S.grows store.old store.new }
 {
     if !has_items(alloc, system)? {
@@ -218,8 +228,10 @@ pub fn splice_at<S: Store, L: Ledger>(
     requires old { All (IsId (S.trees store.old)) old.now }
     requires new { All (IsId (S.trees store.old)) new.now }
     requires fits { Fits (Op.System items.now) (sorts_at (S.trees store.old) new.now) }
-    ensures ok { IfOk result (IsResult (SubstAt (pairs_at (S.trees store.old) pairs.now) (Op.System items.now) (kid_trees (S.trees store.old) old.now) (kid_trees (S.trees store.old) new.now)) (S.trees store.new)) }
-    ensures none { result ≡ Err NotAdmissible → HasNone (λ t. SubstAt (pairs_at (S.trees store.old) pairs.now) (Op.System items.now) (kid_trees (S.trees store.old) old.now) (kid_trees (S.trees store.old) new.now) t × WellMade t) }
+    ensures ok { IfOk result (IsResult (SubstAt (pairs_at (S.trees store.old) pairs.now) (Op.System items.now) (kid_trees (S.trees store.old) old.now)
+        (kid_trees (S.trees store.old) new.now)) (S.trees store.new)) }
+    ensures none { result ≡ Err NotAdmissible → HasNone (λ t. SubstAt (pairs_at (S.trees store.old) pairs.now) (Op.System items.now)
+        (kid_trees (S.trees store.old) old.now) (kid_trees (S.trees store.old) new.now) t × WellMade t) }
     ensures grows { S.grows store.old store.new }
     ensures cost { IsTrue S.unique → steps.new ≤ steps.old + distinct_count (replacement_subtrees (pairs_at (S.trees store.old) pairs.now)) }
 {

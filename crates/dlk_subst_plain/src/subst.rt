@@ -39,8 +39,11 @@ fn fill_admissible<S: Store, L: Ledger>(
     requires new { All (IsId (S.trees store.old)) new.now }
     requires some { 0 < length new.now }
     requires formula { sort (first (kid_trees (S.trees store.old) new.now)) ≡ Formula }
-    ensures ok { IfOk result (IsResult (λ t. IsAdmissible (pairs_at (S.trees store.old) pairs.now) all (kid_trees (S.trees store.old) old.now) × (t ≡ filled (first (kid_trees (S.trees store.old) new.now)) (tree (S.trees store.old) by))) (S.trees store.new)) }
-    ensures none { result ≡ Err NotAdmissible → HasNone (λ t. IsAdmissible (pairs_at (S.trees store.old) pairs.now) all (kid_trees (S.trees store.old) old.now) × (t ≡ filled (first (kid_trees (S.trees store.old) new.now)) (tree (S.trees store.old) by))) }
+    ensures ok { IfOk result (IsResult (λ t. IsAdmissible (pairs_at (S.trees store.old) pairs.now) all (kid_trees (S.trees store.old) old.now) ×
+        (t ≡ filled (first (kid_trees (S.trees store.old) new.now)) (tree (S.trees store.old) by))) (S.trees store.new)) }
+    ensures none { result ≡ Err NotAdmissible →
+        HasNone (λ t. IsAdmissible (pairs_at (S.trees store.old) pairs.now) all (kid_trees (S.trees store.old) old.now) ×
+        (t ≡ filled (first (kid_trees (S.trees store.old) new.now)) (tree (S.trees store.old) by))) }
     ensures owed { ¬ IsAdmissible (pairs_at (S.trees store.old) pairs.now) all (kid_trees (S.trees store.old) old.now) → result ≡ Err NotAdmissible }
     ensures grows { S.grows store.old store.new }
 {
@@ -64,8 +67,10 @@ fn subst_at<S: Store, L: Ledger>(
     requires old { All (IsId (S.trees store.old)) old.now }
     requires new { All (IsId (S.trees store.old)) new.now }
     requires fits { Fits op.now (sorts_at (S.trees store.old) new.now) }
-    ensures ok { IfOk result (IsResult (SubstAt (pairs_at (S.trees store.old) pairs.now) op.now (kid_trees (S.trees store.old) old.now) (kid_trees (S.trees store.old) new.now)) (S.trees store.new)) }
-    ensures none { result ≡ Err NotAdmissible → HasNone (λ t. SubstAt (pairs_at (S.trees store.old) pairs.now) op.now (kid_trees (S.trees store.old) old.now) (kid_trees (S.trees store.old) new.now) t × WellMade t) }
+    ensures ok { IfOk result (IsResult (SubstAt (pairs_at (S.trees store.old) pairs.now) op.now (kid_trees (S.trees store.old) old.now)
+        (kid_trees (S.trees store.old) new.now)) (S.trees store.new)) }
+    ensures none { result ≡ Err NotAdmissible → HasNone (λ t. SubstAt (pairs_at (S.trees store.old) pairs.now) op.now (kid_trees (S.trees store.old) old.now)
+        (kid_trees (S.trees store.old) new.now) t × WellMade t) }
     ensures grows { S.grows store.old store.new }
 {
     if let Op::System(items) = op {

@@ -4,7 +4,7 @@ use Rattle.dlk_scripts.specs.declared.part.Part.{Part}
 use Rattle.dlk_scripts.specs.declared.part.PartKind.{PartKind}
 use Rattle.dlk_scripts.specs.declared.part.PartKind.TheVariants as kind
 use Rattle.dlk_tacsyn.specs.declared.argument.Written.{Written}
-use Rattle.dlk_tacsyn.specs.declared.argument.Call.{Call}
+use Rattle.dlk_tacsyn.specs.declared.argument.OpenAtom.{OpenAtom}
 use Rattle.dlk_tacsyn.specs.Tactics.{Tactic}
 use Rattle.dlk_tacsyn.specs.Faults.{Fault}
 use Rattle.dlk_tacsyn.specs.Strategies.{Outcome, Reading, Says, Fails, ◌>>=◌, atom_of}
@@ -26,7 +26,7 @@ module _ (read : Reading) where
   name_ended at k l outer f place x t R same other found ends =
       name_other at k outer f place x other ∙ ap (λ m. m >>= (λ u. after_whole at k outer f u)) found ∙ ap (λ z. after_whole at z outer f t) (sym same) ∙ ends
 
-  pub call_closed : (at : ℕ) (k : PartKind) (outer : Stack) (f : Frame) (c : Call) (ws : List Written) (t : Tactic) →
+  pub call_closed : (at : ℕ) (k : PartKind) (outer : Stack) (f : Frame) (c : OpenAtom) (ws : List Written) (t : Tactic) →
       k ≡ kind.Close → given c.before c.current ≡ Some ws → atom_of read c.at c.name ws ≡ Says t →
       after_call read at k outer f c ≡ Says (state outer f (Whole t))
   call_closed at k outer f c ws t closes all found =

@@ -3,12 +3,12 @@ use Rattle.std.specs.Prelude.{List, map, fold, All}
 use Rattle.dlk_tree.specs.Trees.{Tree}
 use Rattle.dlk_tacsyn.specs.declared.frame.Frame.{Frame}
 use Rattle.dlk_tacsyn.specs.declared.frame.Brackets.{Brackets}
-use Rattle.dlk_tacsyn.specs.declared.reader.Last.{Last}
-use Rattle.dlk_tacsyn.specs.declared.reader.Last.TheVariants as last
+use Rattle.dlk_tacsyn.specs.declared.reader.Pending.{Pending}
+use Rattle.dlk_tacsyn.specs.declared.reader.Pending.TheVariants as pending
 use Rattle.dlk_tacsyn.specs.declared.reader.Reader.{Reader}
 use Rattle.dlk_tacsyn.specs.Strategies.{Reading, IsReading}
 use Rattle.dlk_tacsyn.specs.Ties.{tactic_at, TacticIsKnown}
-use Rattle.dlk_tacsyn.specs.Steps.{Frame as TreeFrame, Stack, bottom, within, Last as TreeLast, Nothing, Named, Called, Whole, State, state}
+use Rattle.dlk_tacsyn.specs.Steps.{Frame as TreeFrame, Stack, bottom, within, Pending as TreePending, Nothing, Named, Called, Whole, State, state}
 
 -- it holds, however the quoted texts are read
 abbrev pub ByReading : (Reading → Type 0) → Type 0
@@ -27,14 +27,14 @@ frame_at trees f = record {
 abbrev pub stack_at : List Tree → List Frame → Stack
 stack_at trees frames = fold (λ s f. within s (frame_at trees f)) bottom frames
 
-abbrev pub last_at : List Tree → Last → TreeLast
-last_at trees last.Nothing = Nothing
-last_at trees (last.Named at x) = Named at x
-last_at trees (last.Called call) = Called call
-last_at trees (last.Whole t) = Whole (tactic_at trees t)
+abbrev pub pending_at : List Tree → Pending → TreePending
+pending_at trees pending.Nothing = Nothing
+pending_at trees (pending.Named at x) = Named at x
+pending_at trees (pending.Called call) = Called call
+pending_at trees (pending.Whole t) = Whole (tactic_at trees t)
 
 abbrev pub state_at : List Tree → Reader → State
-state_at trees r = state (stack_at trees r.brackets.outer.items) (frame_at trees r.brackets.inner) (last_at trees r.last)
+state_at trees r = state (stack_at trees r.brackets.outer.items) (frame_at trees r.brackets.inner) (pending_at trees r.last)
 
 -- its ids are those of the store
 pub record FrameIsKnown (trees : List Tree) (f : Frame) : Type 0 where
@@ -46,12 +46,12 @@ pub record BracketsAreKnown (trees : List Tree) (b : Brackets) : Type 0 where
   pub outer : All (FrameIsKnown trees) b.outer.items
   pub inner : FrameIsKnown trees b.inner
 
-abbrev pub LastIsKnown : List Tree → Last → Type 0
-LastIsKnown trees last.Nothing = Unit {0}
-LastIsKnown trees (last.Named at x) = Unit {0}
-LastIsKnown trees (last.Called call) = Unit {0}
-LastIsKnown trees (last.Whole t) = TacticIsKnown trees t
+abbrev pub PendingIsKnown : List Tree → Pending → Type 0
+PendingIsKnown trees pending.Nothing = Unit {0}
+PendingIsKnown trees (pending.Named at x) = Unit {0}
+PendingIsKnown trees (pending.Called call) = Unit {0}
+PendingIsKnown trees (pending.Whole t) = TacticIsKnown trees t
 
 pub record ReaderIsKnown (trees : List Tree) (r : Reader) : Type 0 where
   pub brackets : BracketsAreKnown trees r.brackets
-  pub last : LastIsKnown trees r.last
+  pub last : PendingIsKnown trees r.last

@@ -8,7 +8,7 @@ use Rattle.dlk_tacsyn.specs.declared.argument.Written.{Written}
 use Rattle.dlk_tacsyn.specs.declared.argument.Written.TheVariants as written
 use Rattle.dlk_tacsyn.specs.declared.argument.Current.{Current}
 use Rattle.dlk_tacsyn.specs.declared.argument.Current.TheVariants as current
-use Rattle.dlk_tacsyn.specs.declared.argument.Call.{Call}
+use Rattle.dlk_tacsyn.specs.declared.argument.OpenAtom.{OpenAtom}
 use Rattle.dlk_tacsyn.specs.declared.frame.Opened.{Opened}
 use Rattle.dlk_tacsyn.specs.declared.frame.Opened.TheVariants.{Group, Fork}
 use Rattle.dlk_tacsyn.specs.Tactics.{Tactic, Choice, Sequence, Branch}
@@ -29,18 +29,18 @@ pub data Stack : Type 0 where
   within : Stack → Frame → Stack
 
 -- what stands behind the last `;`, `|`, `,` or bracket
-pub data Last : Type 0 where
-  Nothing : Last
-  Named : ℕ → List ℕ → Last
-  Called : Call → Last
-  Whole : Tactic → Last
+pub data Pending : Type 0 where
+  Nothing : Pending
+  Named : ℕ → List ℕ → Pending
+  Called : OpenAtom → Pending
+  Whole : Tactic → Pending
 
 pub record State : Type 0 where
   pub outer : Stack
   pub inner : Frame
-  pub last : Last
+  pub last : Pending
 
-abbrev pub state : Stack → Frame → Last → State
+abbrev pub state : Stack → Frame → Pending → State
 state outer inner last = record { outer = outer; inner = inner; last = last }
 
 abbrev pub empty_frame : Opened → ℕ → Frame
@@ -90,7 +90,7 @@ with_part kind.Point (current.Given w) = Some (current.Given w)
 with_part (kind.Number n) (current.Given (written.At place path)) = Some (current.Given (written.At place (path ++ n ∷ [])))
 with_part _ _ = None
 
-abbrev pub with_current : Call → Current → Call
+abbrev pub with_current : OpenAtom → Current → OpenAtom
 with_current c x = record { at = c.at; name = c.name; before = c.before; current = x }
 
 -- the arguments of an atom whose bracket closes, or that goes on with `,`
@@ -114,20 +114,20 @@ after_whole at kind.Star outer f t = Says (state outer f (Whole t))
 after_whole at (kind.Number n) outer f t = repeated at n t >>= (λ u. Says (state outer f (Whole u)))
 after_whole at _ outer f t = Fails (Syntax at)
 
-abbrev pub go_on_call : ℕ → Stack → Frame → Call → Option Current → Outcome State
+abbrev pub go_on_call : ℕ → Stack → Frame → OpenAtom → Option Current → Outcome State
 go_on_call at outer f c None = Fails (Syntax at)
 go_on_call at outer f c (Some x) = Says (state outer f (Called (with_current c x)))
 
-abbrev pub next_argument : ℕ → Stack → Frame → Call → Option (List Written) → Outcome State
+abbrev pub next_argument : ℕ → Stack → Frame → OpenAtom → Option (List Written) → Outcome State
 next_argument at outer f c None = Fails (Syntax at)
 next_argument at outer f c (Some ws) = Says (state outer f (Called (record { at = c.at; name = c.name; before = ws; current = current.Nothing })))
 
 module _ (read : Reading) where
-  abbrev pub end_call : ℕ → Call → Option (List Written) → Outcome Tactic
+  abbrev pub end_call : ℕ → OpenAtom → Option (List Written) → Outcome Tactic
   end_call at c None = Fails (Syntax at)
   end_call at c (Some ws) = atom_of read c.at c.name ws
 
-  abbrev pub after_call : ℕ → PartKind → Stack → Frame → Call → Outcome State
+  abbrev pub after_call : ℕ → PartKind → Stack → Frame → OpenAtom → Outcome State
   after_call at kind.Comma outer f c = next_argument at outer f c (given c.before c.current)
   after_call at kind.Close outer f c = end_call at c (given c.before c.current) >>= (λ t. Says (state outer f (Whole t)))
   after_call at k outer f c = go_on_call at outer f c (with_part k c.current)
@@ -137,7 +137,7 @@ module _ (read : Reading) where
   after_name at k outer f place x = atom_of read place x [] >>= after_whole at k outer f
 
   -- the state behind a part
-  abbrev pub after : ℕ → PartKind → Stack → Frame → Last → Outcome State
+  abbrev pub after : ℕ → PartKind → Stack → Frame → Pending → Outcome State
   after at k outer f Nothing = after_nothing at k outer f
   after at k outer f (Named place x) = after_name at k outer f place x
   after at k outer f (Called c) = after_call at k outer f c
@@ -152,7 +152,7 @@ module _ (read : Reading) where
   run s (p ∷ ps) = step s p >>= (λ next. run next ps)
 
   -- the strategy that stands last
-  abbrev pub settled : Last → Outcome Tactic
+  abbrev pub settled : Pending → Outcome Tactic
   settled Nothing = Fails (Syntax 0)
   settled (Named at x) = atom_of read at x []
   settled (Called c) = Fails (Syntax 0)

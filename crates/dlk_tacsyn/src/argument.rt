@@ -41,7 +41,7 @@ pub(crate) enum Current {
 
 /// An atom whose bracket is open, with the byte of its name.
 #[derive(Drop, Debug)]
-pub(crate) struct Call {
+pub(crate) struct OpenAtom {
     pub at: usize,
     pub name: Name,
     pub before: Listed<Written>,

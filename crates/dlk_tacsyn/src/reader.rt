@@ -7,9 +7,9 @@ ghost use Rattle.dlk_tacsyn.specs.Faults.{Fault as TheFault, IsTacSyntaxOf};
 ghost use Rattle.dlk_tacsyn.specs.Strategies.{Says, Fails};
 ghost use Rattle.dlk_tacsyn.specs.Ties.{tactic_at, TacticIsKnown};
 ghost use Rattle.dlk_tacsyn.specs.Steps.{given, start, step, settled, finish, behind_close, behind_open, after_nothing, after_whole, after_name, after_call};
-ghost use Rattle.dlk_tacsyn.specs.States.{ByReading, frame_at, stack_at, last_at, state_at, LastIsKnown, BracketsAreKnown, ReaderIsKnown};
+ghost use Rattle.dlk_tacsyn.specs.States.{ByReading, frame_at, stack_at, pending_at, state_at, PendingIsKnown, BracketsAreKnown, ReaderIsKnown};
 
-use crate::argument::{Call, Current, given};
+use crate::argument::{Current, OpenAtom, given};
 use crate::atom::atom;
 use crate::fault::TacSyntax;
 use crate::frame::{Brackets, Frame, Opened};
@@ -28,11 +28,11 @@ const MOST_TIMES: u32 = 1000;
 
 /// What stands behind the last `;`, `|`, `,` or bracket.
 #[derive(Drop, Debug)]
-pub(crate) enum Last {
+pub(crate) enum Pending {
     Nothing,
     /// A name, at this byte, that may still get arguments.
     Named { at: usize, name: Name },
-    Called(Call),
+    Called(OpenAtom),
     /// A strategy, that may still be repeated.
     Whole(Tactic),
 }
@@ -41,7 +41,7 @@ pub(crate) enum Last {
 #[derive(Drop, Debug)]
 pub(crate) struct Reader {
     pub brackets: Brackets,
-    pub last: Last,
+    pub last: Pending,
 }
 
 impl Reader {
@@ -55,7 +55,7 @@ impl Reader {
                 outer: Vec::new(alloc),
                 inner: Frame::empty(alloc, Opened::Group, 0),
             },
-            last: Last::Nothing,
+            last: Pending::Nothing,
         }
     }
 
@@ -74,10 +74,10 @@ impl Reader {
     {
         let Reader { brackets, last } = self;
         match last {
-            Last::Nothing => after_nothing(alloc, brackets, part),
-            Last::Named { at, name } => after_name(alloc, brackets, at, name, part, store),
-            Last::Called(call) => after_call(alloc, brackets, call, part, store),
-            Last::Whole(t) => after_whole(alloc, brackets, t, part),
+            Pending::Nothing => after_nothing(alloc, brackets, part),
+            Pending::Named { at, name } => after_name(alloc, brackets, at, name, part, store),
+            Pending::Called(call) => after_call(alloc, brackets, call, part, store),
+            Pending::Whole(t) => after_whole(alloc, brackets, t, part),
         }
     }
 
@@ -97,26 +97,29 @@ impl Reader {
 }
 
 /// The strategy that stands last. Where none does, no text ends so, and the fault's place is free.
-fn settled<S: Store>(alloc: Global, last: Last, store: &mut S) -> Result<Tactic, TacSyntax>
-    requires { LastIsKnown (S.trees store.old) last }
-    ensures found { IfOk result (λ t. ByReading (λ read. settled read (last_at (S.trees store.old) last) ≡ Says (tactic_at (S.trees store.new) t))) }
+fn settled<S: Store>(alloc: Global, last: Pending, store: &mut S) -> Result<Tactic, TacSyntax>
+    requires { PendingIsKnown (S.trees store.old) last }
+    ensures found { IfOk result (λ t. ByReading (λ read. settled read (pending_at (S.trees store.old) last) ≡ Says (tactic_at (S.trees store.new) t))) }
     ensures known { IfOk result (TacticIsKnown (S.trees store.new)) }
-    ensures fault { IfErr result (IsTacSyntaxOf (λ f. ByReading (λ read. settled read (last_at (S.trees store.old) last) ≡ Fails f))) }
+    ensures fault { IfErr result (IsTacSyntaxOf (λ f. ByReading (λ read. settled read (pending_at (S.trees store.old) last) ≡ Fails f))) }
     ensures grows { S.grows store.old store.new }
 {
     match last {
-        Last::Named { at, name } => atom(alloc, at, name, Listed::new(alloc), store),
-        Last::Whole(t) => Ok(t),
-        Last::Nothing | Last::Called(_) => Err(TacSyntax::Syntax { at: 0 }),
+        Pending::Named { at, name } => atom(alloc, at, name, Listed::new(alloc), store),
+        Pending::Whole(t) => Ok(t),
+        Pending::Nothing | Pending::Called(_) => Err(TacSyntax::Syntax { at: 0 }),
     }
 }
 
 /// Opens a bracket at this byte.
 fn open(alloc: Global, at: usize, brackets: Brackets, opened: Opened) -> Result<Reader, TacSyntax>
-    ensures found { IfOk result (λ r. (trees : List Tree) → behind_open at (stack_at trees brackets.outer.items) (frame_at trees brackets.inner) opened ≡ Says (state_at trees r)) }
+    ensures found { IfOk result (λ r. (trees : List Tree) →
+        behind_open at (stack_at trees brackets.outer.items) (frame_at trees brackets.inner) opened ≡ Says (state_at trees r)) }
     ensures known { IfOk result (λ r. (trees : List Tree) → BracketsAreKnown trees brackets → ReaderIsKnown trees r) }
-    ensures fault { IfErr result (IsTacSyntaxOf (λ f. (trees : List Tree) → behind_open at (stack_at trees brackets.outer.items) (frame_at trees brackets.inner) opened ≡ Fails f)) }
-    ensures owed { (trees : List Tree) (f : TheFault) → behind_open at (stack_at trees brackets.outer.items) (frame_at trees brackets.inner) opened ≡ Fails f → result ≢ Err Memory }
+    ensures fault { IfErr result (IsTacSyntaxOf (λ f. (trees : List Tree) →
+        behind_open at (stack_at trees brackets.outer.items) (frame_at trees brackets.inner) opened ≡ Fails f)) }
+    ensures owed { (trees : List Tree) (f : TheFault) → behind_open at (stack_at trees brackets.outer.items) (frame_at trees brackets.inner) opened ≡ Fails f →
+        result ≢ Err Memory }
 {
     let level = brackets.inner.level;
     if level >= MOST_OPEN {
@@ -127,15 +130,17 @@ fn open(alloc: Global, at: usize, brackets: Brackets, opened: Opened) -> Result<
     let inner = Frame::empty(alloc, opened, level + 1);
     Ok(Reader {
         brackets: Brackets { outer, inner },
-        last: Last::Nothing,
+        last: Pending::Nothing,
     })
 }
 
 /// Closes the bracket, with all that stands in it ended.
 fn close(at: usize, brackets: Brackets) -> Result<Reader, TacSyntax>
-    ensures found { IfOk result (λ r. (trees : List Tree) → behind_close at (stack_at trees brackets.outer.items) (frame_at trees brackets.inner) ≡ Says (state_at trees r)) }
+    ensures found { IfOk result (λ r. (trees : List Tree) →
+        behind_close at (stack_at trees brackets.outer.items) (frame_at trees brackets.inner) ≡ Says (state_at trees r)) }
     ensures known { IfOk result (λ r. (trees : List Tree) → BracketsAreKnown trees brackets → ReaderIsKnown trees r) }
-    ensures fault { IfErr result (IsTacSyntaxOf (λ f. (trees : List Tree) → behind_close at (stack_at trees brackets.outer.items) (frame_at trees brackets.inner) ≡ Fails f)) }
+    ensures fault { IfErr result (IsTacSyntaxOf (λ f. (trees : List Tree) →
+        behind_close at (stack_at trees brackets.outer.items) (frame_at trees brackets.inner) ≡ Fails f)) }
     ensures decides { IfErr result (λ why. why ≢ Memory) }
 {
     let Brackets { mut outer, inner } = brackets;
@@ -147,22 +152,25 @@ fn close(at: usize, brackets: Brackets) -> Result<Reader, TacSyntax>
             outer,
             inner: around,
         },
-        last: Last::Whole(inner.closed()),
+        last: Pending::Whole(inner.closed()),
     })
 }
 
 /// Behind a `;`, a `|`, a `,` or an opening bracket.
 fn after_nothing(alloc: Global, brackets: Brackets, part: Part) -> Result<Reader, TacSyntax>
-    ensures found { IfOk result (λ r. (trees : List Tree) → after_nothing part.at part.kind (stack_at trees brackets.outer.items) (frame_at trees brackets.inner) ≡ Says (state_at trees r)) }
+    ensures found { IfOk result (λ r. (trees : List Tree) →
+        after_nothing part.at part.kind (stack_at trees brackets.outer.items) (frame_at trees brackets.inner) ≡ Says (state_at trees r)) }
     ensures known { IfOk result (λ r. (trees : List Tree) → BracketsAreKnown trees brackets → ReaderIsKnown trees r) }
-    ensures fault { IfErr result (IsTacSyntaxOf (λ f. (trees : List Tree) → after_nothing part.at part.kind (stack_at trees brackets.outer.items) (frame_at trees brackets.inner) ≡ Fails f)) }
-    ensures owed { (trees : List Tree) (f : TheFault) → after_nothing part.at part.kind (stack_at trees brackets.outer.items) (frame_at trees brackets.inner) ≡ Fails f → result ≢ Err Memory }
+    ensures fault { IfErr result (IsTacSyntaxOf (λ f. (trees : List Tree) →
+        after_nothing part.at part.kind (stack_at trees brackets.outer.items) (frame_at trees brackets.inner) ≡ Fails f)) }
+    ensures owed { (trees : List Tree) (f : TheFault) →
+        after_nothing part.at part.kind (stack_at trees brackets.outer.items) (frame_at trees brackets.inner) ≡ Fails f → result ≢ Err Memory }
 {
     let Part { kind, at } = part;
     match kind {
         PartKind::Name(name) => Ok(Reader {
             brackets,
-            last: Last::Named { at, name },
+            last: Pending::Named { at, name },
         }),
         PartKind::Open => open(alloc, at, brackets, Opened::Group),
         PartKind::Fork => open(alloc, at, brackets, Opened::Fork(at)),
@@ -177,9 +185,11 @@ fn after_whole(
     t: Tactic,
     part: Part,
 ) -> Result<Reader, TacSyntax>
-    ensures found { IfOk result (λ r. (trees : List Tree) → after_whole part.at part.kind (stack_at trees brackets.outer.items) (frame_at trees brackets.inner) (tactic_at trees t) ≡ Says (state_at trees r)) }
+    ensures found { IfOk result (λ r. (trees : List Tree) →
+        after_whole part.at part.kind (stack_at trees brackets.outer.items) (frame_at trees brackets.inner) (tactic_at trees t) ≡ Says (state_at trees r)) }
     ensures known { IfOk result (λ r. (trees : List Tree) → BracketsAreKnown trees brackets → TacticIsKnown trees t → ReaderIsKnown trees r) }
-    ensures fault { IfErr result (IsTacSyntaxOf (λ f. (trees : List Tree) → after_whole part.at part.kind (stack_at trees brackets.outer.items) (frame_at trees brackets.inner) (tactic_at trees t) ≡ Fails f)) }
+    ensures fault { IfErr result (IsTacSyntaxOf (λ f. (trees : List Tree) →
+        after_whole part.at part.kind (stack_at trees brackets.outer.items) (frame_at trees brackets.inner) (tactic_at trees t) ≡ Fails f)) }
 {
     let Part { kind, at } = part;
     match kind {
@@ -188,7 +198,7 @@ fn after_whole(
             let inner = inner.end_step(t)?;
             Ok(Reader {
                 brackets: Brackets { outer, inner },
-                last: Last::Nothing,
+                last: Pending::Nothing,
             })
         }
         PartKind::Bar => {
@@ -196,7 +206,7 @@ fn after_whole(
             let inner = inner.end_sequence(alloc, t)?;
             Ok(Reader {
                 brackets: Brackets { outer, inner },
-                last: Last::Nothing,
+                last: Pending::Nothing,
             })
         }
         PartKind::Comma => {
@@ -204,7 +214,7 @@ fn after_whole(
             let inner = inner.end_choice(alloc, t)?;
             Ok(Reader {
                 brackets: Brackets { outer, inner },
-                last: Last::Nothing,
+                last: Pending::Nothing,
             })
         }
         PartKind::Close => {
@@ -214,7 +224,7 @@ fn after_whole(
         }
         PartKind::Star => Ok(Reader {
             brackets,
-            last: Last::Whole(t),
+            last: Pending::Whole(t),
         }),
         PartKind::Number(n) => repeat(alloc, at, brackets, t, n),
         _ => Err(TacSyntax::Syntax { at }),
@@ -229,10 +239,14 @@ fn repeat(
     t: Tactic,
     n: u32,
 ) -> Result<Reader, TacSyntax>
-    ensures found { IfOk result (λ r. (trees : List Tree) → after_whole at (kind.Number n) (stack_at trees brackets.outer.items) (frame_at trees brackets.inner) (tactic_at trees t) ≡ Says (state_at trees r)) }
+    ensures found { IfOk result (λ r. (trees : List Tree) →
+        after_whole at (kind.Number n) (stack_at trees brackets.outer.items) (frame_at trees brackets.inner) (tactic_at trees t) ≡ Says (state_at trees r)) }
     ensures known { IfOk result (λ r. (trees : List Tree) → BracketsAreKnown trees brackets → TacticIsKnown trees t → ReaderIsKnown trees r) }
-    ensures fault { IfErr result (IsTacSyntaxOf (λ f. (trees : List Tree) → after_whole at (kind.Number n) (stack_at trees brackets.outer.items) (frame_at trees brackets.inner) (tactic_at trees t) ≡ Fails f)) }
-    ensures owed { (trees : List Tree) (f : TheFault) → after_whole at (kind.Number n) (stack_at trees brackets.outer.items) (frame_at trees brackets.inner) (tactic_at trees t) ≡ Fails f → result ≢ Err Memory }
+    ensures fault { IfErr result (IsTacSyntaxOf (λ f. (trees : List Tree) →
+        after_whole at (kind.Number n) (stack_at trees brackets.outer.items) (frame_at trees brackets.inner) (tactic_at trees t) ≡ Fails f)) }
+    ensures owed { (trees : List Tree) (f : TheFault) →
+        after_whole at (kind.Number n) (stack_at trees brackets.outer.items) (frame_at trees brackets.inner) (tactic_at trees t) ≡ Fails f →
+        result ≢ Err Memory }
 {
     if n > MOST_TIMES {
         return Err(TacSyntax::Repeat { at });
@@ -240,7 +254,7 @@ fn repeat(
     let body = Box::new(alloc, t)?;
     Ok(Reader {
         brackets,
-        last: Last::Whole(Tactic::Repeat { body, times: n }),
+        last: Pending::Whole(Tactic::Repeat { body, times: n }),
     })
 }
 
@@ -254,16 +268,18 @@ fn after_name<S: Store>(
     store: &mut S,
 ) -> Result<Reader, TacSyntax>
     requires { BracketsAreKnown (S.trees store.old) brackets }
-    ensures found { IfOk result (λ r. ByReading (λ read. after_name read part.at part.kind (stack_at (S.trees store.old) brackets.outer.items) (frame_at (S.trees store.old) brackets.inner) at name ≡ Says (state_at (S.trees store.new) r))) }
+    ensures found { IfOk result (λ r. ByReading (λ read. after_name read part.at part.kind (stack_at (S.trees store.old) brackets.outer.items)
+        (frame_at (S.trees store.old) brackets.inner) at name ≡ Says (state_at (S.trees store.new) r))) }
     ensures known { IfOk result (ReaderIsKnown (S.trees store.new)) }
-    ensures fault { IfErr result (IsTacSyntaxOf (λ f. ByReading (λ read. after_name read part.at part.kind (stack_at (S.trees store.old) brackets.outer.items) (frame_at (S.trees store.old) brackets.inner) at name ≡ Fails f))) }
+    ensures fault { IfErr result (IsTacSyntaxOf (λ f. ByReading (λ read. after_name read part.at part.kind (stack_at (S.trees store.old) brackets.outer.items)
+        (frame_at (S.trees store.old) brackets.inner) at name ≡ Fails f))) }
     ensures grows { S.grows store.old store.new }
 {
     let Part { kind, at: behind } = part;
     match kind {
         PartKind::Open => Ok(Reader {
             brackets,
-            last: Last::Called(Call {
+            last: Pending::Called(OpenAtom {
                 at,
                 name,
                 before: Listed::new(alloc),
@@ -281,20 +297,22 @@ fn after_name<S: Store>(
 fn after_call<S: Store>(
     alloc: Global,
     brackets: Brackets,
-    call: Call,
+    call: OpenAtom,
     part: Part,
     store: &mut S,
 ) -> Result<Reader, TacSyntax>
     requires { BracketsAreKnown (S.trees store.old) brackets }
-    ensures found { IfOk result (λ r. ByReading (λ read. after_call read part.at part.kind (stack_at (S.trees store.old) brackets.outer.items) (frame_at (S.trees store.old) brackets.inner) call ≡ Says (state_at (S.trees store.new) r))) }
+    ensures found { IfOk result (λ r. ByReading (λ read. after_call read part.at part.kind (stack_at (S.trees store.old) brackets.outer.items)
+        (frame_at (S.trees store.old) brackets.inner) call ≡ Says (state_at (S.trees store.new) r))) }
     ensures known { IfOk result (ReaderIsKnown (S.trees store.new)) }
-    ensures fault { IfErr result (IsTacSyntaxOf (λ f. ByReading (λ read. after_call read part.at part.kind (stack_at (S.trees store.old) brackets.outer.items) (frame_at (S.trees store.old) brackets.inner) call ≡ Fails f))) }
+    ensures fault { IfErr result (IsTacSyntaxOf (λ f. ByReading (λ read.
+        after_call read part.at part.kind (stack_at (S.trees store.old) brackets.outer.items) (frame_at (S.trees store.old) brackets.inner) call ≡ Fails f))) }
     ensures owed { part.kind ≡ kind.Comma → given call.before call.current ≡ None → result ≡ Err (Syntax part.at) }
     ensures unended { part.kind ≡ kind.Close → given call.before call.current ≡ None → result ≡ Err (Syntax part.at) }
     ensures grows { S.grows store.old store.new }
 {
     let Part { kind, at } = part;
-    let Call {
+    let OpenAtom {
         at: place,
         name,
         before,
@@ -307,7 +325,7 @@ fn after_call<S: Store>(
             };
             Ok(Reader {
                 brackets,
-                last: Last::Called(Call {
+                last: Pending::Called(OpenAtom {
                     at: place,
                     name,
                     before,
@@ -322,7 +340,7 @@ fn after_call<S: Store>(
             let t = atom(alloc, place, name, written, store)?;
             Ok(Reader {
                 brackets,
-                last: Last::Whole(t),
+                last: Pending::Whole(t),
             })
         }
         kind => {
@@ -331,7 +349,7 @@ fn after_call<S: Store>(
             };
             Ok(Reader {
                 brackets,
-                last: Last::Called(Call {
+                last: Pending::Called(OpenAtom {
                     at: place,
                     name,
                     before,

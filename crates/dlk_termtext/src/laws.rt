@@ -5,12 +5,12 @@ ghost use Rattle.dlk_lines.specs.Numbers.{IsLineNumber};
 ghost use Rattle.dlk_termtext.specs.Lines.{Line as TreeLine, Numbered, IsLine};
 ghost use Rattle.dlk_termtext.specs.Written.{line_text, IsWritable};
 
-/// A text says at most one line.
+/// A text says at most one line. The statement of term files asks for it.
 pub fn one_line()
     ensures { (text : List ℕ) (l m : TreeLine) → IsLine text l → IsLine text m → l ≡ m }
 {}
 
-/// A text says a line, or it says none.
+/// A text says a line, or it says none. The statement of term files asks for it.
 pub fn some_line()
     ensures { (text : List ℕ) → ((l : TreeLine) × IsLine text l) ⊎ ((l : TreeLine) → ¬ IsLine text l) }
 {}
@@ -21,7 +21,7 @@ pub fn steps_are_proper()
 {}
 
 /// The written form of a line is read as that line: its numbers are from 1 to 999,999,999, its names are names, and its formulas
-/// and its pairs are within the limits of what is read.
+/// and its pairs are within the limits of what is read. The statement of term files asks for it.
 pub fn written_line_is_read()
     ensures { (number : ℕ) (step : Step) → IsLineNumber number → IsWritable step → IsLine (line_text number step) (Numbered number step) }
 {}

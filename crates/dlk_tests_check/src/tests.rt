@@ -8,7 +8,7 @@ mod orders;
 mod terms;
 mod versions;
 
-use dlk_replies::{Form, Last, NoReply, Role};
+use dlk_replies::{Form, LastWord, NoReply, Role};
 use dlk_tests_answers::{
     INCREMENT_BY_NODES, INCREMENT_MODEL, INCREMENT_REPORT, INCREMENT_TERM, REPORT, TERM,
     TERM_BY_NODES, checked, joined, padded, proof, repeated, replied, words_of,
@@ -222,18 +222,18 @@ fn accepts_and_refuses_terms(rt: HostRuntime) -> Result<(), Fail> {
 }
 
 /// What stands behind an input, words, and whether they have the form.
-const FORMS: &[(Last, &[&str], bool)] = &[
-    (Last::Output, &["v", "in", "out"], true),
-    (Last::Output, &["v", "in"], false),
-    (Last::Output, &["v", "in", "out", "more"], false),
-    (Last::Output, &["w", "in", "out"], false),
-    (Last::Number, &["v", "in", "1"], true),
-    (Last::Number, &["v", "in", "99"], true),
-    (Last::Number, &["v", "in", "500"], true),
-    (Last::Number, &["v", "in", "0"], false),
-    (Last::Number, &["v", "in", "01"], false),
-    (Last::Number, &["v", "in", "501"], false),
-    (Last::Number, &["v", "in", "1000"], false),
+const FORMS: &[(LastWord, &[&str], bool)] = &[
+    (LastWord::Output, &["v", "in", "out"], true),
+    (LastWord::Output, &["v", "in"], false),
+    (LastWord::Output, &["v", "in", "out", "more"], false),
+    (LastWord::Output, &["w", "in", "out"], false),
+    (LastWord::Number, &["v", "in", "1"], true),
+    (LastWord::Number, &["v", "in", "99"], true),
+    (LastWord::Number, &["v", "in", "500"], true),
+    (LastWord::Number, &["v", "in", "0"], false),
+    (LastWord::Number, &["v", "in", "01"], false),
+    (LastWord::Number, &["v", "in", "501"], false),
+    (LastWord::Number, &["v", "in", "1000"], false),
 ];
 
 /// Words of a form that no command has yet: an input, and then an output or a number.

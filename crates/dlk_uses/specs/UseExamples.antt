@@ -38,7 +38,8 @@ assigns p pairs s l r = refl
 -- the most steps: an instance with replacements alone, and a conditional equation
 most : (p : Pair) (pairs : List Pair) (s : Sequent) (e d b l r : Tree) (outer inner : List ℕ) →
     length
-    (instance 2 (codes "Dpow") (record { renames = []; pairs = p ∷ pairs }) ++ by_conditional_equation 4 (first_of_second s) (Succ 1) Forwards e outer inner d b l r)
+    (instance 2 (codes "Dpow") (record { renames = []; pairs = p ∷ pairs })
+    ++ by_conditional_equation 4 (first_of_second s) (Succ 1) Forwards e outer inner d b l r)
     ≡ 19
 most p pairs s e d b l r outer inner = refl
 

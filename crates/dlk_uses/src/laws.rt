@@ -30,7 +30,9 @@ use dlk_match::{
 /// which the use applies, where the instance is taken.
 pub fn uses_fit()
     ensures instance { (rows : List Provable) (n : ℕ) (name : List ℕ) (extra : Extra) → FirstFault rows (instance n name extra) NotEqual → ⊥ }
-    ensures behind { (rows between : List Provable) (name : List ℕ) (spot : Spot) (used : Use) (e : Tree) (extra : Extra) (rest : List Step) → Applies rows spot used e extra → axiom_named name ≡ Some used.its_axiom → Takes rows (instance (length rows) name extra) between → FinishesBehind between spot used e rest → FirstFault between rest NotEqual → ⊥ }
+    ensures behind { (rows between : List Provable) (name : List ℕ) (spot : Spot) (used : Use) (e : Tree) (extra : Extra) (rest : List Step) →
+        Applies rows spot used e extra → axiom_named name ≡ Some used.its_axiom → Takes rows (instance (length rows) name extra) between →
+        FinishesBehind between spot used e rest → FirstFault between rest NotEqual → ⊥ }
 {
     derived_formulas();
     put_is_there();
@@ -48,8 +50,10 @@ pub fn uses_fit()
 /// The last row proves one formula alone.
 pub fn uses_have_shapes()
     ensures axioms { (name : List ℕ) (a : Axiom) → axiom_named name ≡ Some a → HasShape a.form a.formula }
-    ensures instances { (rows between : List Provable) (name : List ℕ) (extra : Extra) (a : Axiom) → axiom_named name ≡ Some a → Takes rows (instance (length rows) name extra) between → (f : Tree) × ProvesLast between f × HasShape a.form f }
-    ensures made { (rows between : List Provable) (name : List ℕ) (extra : Extra) (a : Axiom) → axiom_named name ≡ Some a → Takes rows (instance (length rows) name extra) between → (f : Tree) → ProvesLast between f → WellMade f }
+    ensures instances { (rows between : List Provable) (name : List ℕ) (extra : Extra) (a : Axiom) → axiom_named name ≡ Some a →
+        Takes rows (instance (length rows) name extra) between → (f : Tree) × ProvesLast between f × HasShape a.form f }
+    ensures made { (rows between : List Provable) (name : List ℕ) (extra : Extra) (a : Axiom) → axiom_named name ≡ Some a →
+        Takes rows (instance (length rows) name extra) between → (f : Tree) → ProvesLast between f → WellMade f }
     ensures one { (rows : List Provable) (f g : Tree) → ProvesLast rows f → ProvesLast rows g → f ≡ g }
 {
     derived_formulas();
@@ -60,7 +64,8 @@ pub fn uses_have_shapes()
 
 /// With the names that a match gives to an axiom at most three are renamed: no axiom has more of its own.
 pub fn uses_rename_few()
-    ensures { (name : List ℕ) (a : Axiom) (direction : Direction) (place : Place) (t : Tree) (given extra : Extra) → axiom_named name ≡ Some a → Match (key a.form direction place a.formula) a.own_names t given extra → length extra.renames ≤ 3 }
+    ensures { (name : List ℕ) (a : Axiom) (direction : Direction) (place : Place) (t : Tree) (given extra : Extra) → axiom_named name ≡ Some a →
+        Match (key a.form direction place a.formula) a.own_names t given extra → length extra.renames ≤ 3 }
 {
     match_is_proper();
     axioms_have_own_names();
@@ -68,12 +73,17 @@ pub fn uses_rename_few()
 
 /// The same of the steps for a box at a place on the right: that it follows from its formula alone, and from another box.
 pub fn boxes_fit()
-    ensures generalizing { (rows : List Provable) (spot : Spot) (j : ℕ) (b f : Tree) → IsGoal rows spot.fact spot.goal spot.s → At spot.s.succ j (box b f) → FirstFault rows (generalizing (length rows) spot j b f) NotEqual → ⊥ }
-    ensures cutting { (rows : List Provable) (spot : Spot) (j : ℕ) (b f h : Tree) → IsGoal rows spot.fact spot.goal spot.s → At spot.s.succ j (box b f) → FirstFault rows (cutting_box (length rows) spot j b f h) NotEqual → ⊥ }
+    ensures generalizing { (rows : List Provable) (spot : Spot) (j : ℕ) (b f : Tree) → IsGoal rows spot.fact spot.goal spot.s → At spot.s.succ j (box b f) →
+        FirstFault rows (generalizing (length rows) spot j b f) NotEqual → ⊥ }
+    ensures cutting { (rows : List Provable) (spot : Spot) (j : ℕ) (b f h : Tree) → IsGoal rows spot.fact spot.goal spot.s → At spot.s.succ j (box b f) →
+        FirstFault rows (cutting_box (length rows) spot j b f h) NotEqual → ⊥ }
 {}
 
-/// The same of a leaf that is merged into the goal that it is, and of each rule but the one that closes by two formulas.
+/// No leaf that is merged into the goal that it is, and no rule but the one that closes by two formulas, is refused since formulas are
+/// unlike.
 pub fn goals_fit()
-    ensures leaf { (rows : List Provable) (fact goal : ℕ) (s : Sequent) → IsGoal rows fact goal s → FirstFault rows (Leaf s ∷ Merge fact goal (length rows + 1) ∷ []) NotEqual → ⊥ }
-    ensures rule { (rows : List Provable) (fact goal : ℕ) (rule : Rule) → ((i j : ℕ) → rule ≢ Close i j) → FirstFault rows (Apply fact goal rule ∷ []) NotEqual → ⊥ }
+    ensures leaf { (rows : List Provable) (fact goal : ℕ) (s : Sequent) → IsGoal rows fact goal s →
+        FirstFault rows (Leaf s ∷ Merge fact goal (length rows + 1) ∷ []) NotEqual → ⊥ }
+    ensures rule { (rows : List Provable) (fact goal : ℕ) (rule : Rule) → ((i j : ℕ) → rule ≢ Close i j) →
+        FirstFault rows (Apply fact goal rule ∷ []) NotEqual → ⊥ }
 {}

@@ -9,14 +9,14 @@ use crate::set::VarSet;
 use crate::table::{VarNo, VarTable};
 use dlk_tree::Var;
 
-/// No two variables of a table have one number.
+/// No two variables of a table have one number. The statement of kept sets asks for it.
 pub fn one_variable(table: &VarTable, n: VarNo, v: &Var, w: &Var)
     requires first { number_of table.now v.now ≡ Some n.0 }
     requires second { number_of table.now w.now ≡ Some n.0 }
     ensures { v.now ≡ w.now }
 {}
 
-/// A variable keeps its number while the table grows.
+/// A variable keeps its number while the table grows. The statement of kept sets asks for it.
 pub fn number_stays(old: &VarTable, new: &VarTable, n: VarNo, v: &Var)
     requires grows { Grows old.now new.now }
     requires number { number_of old.now v.now ≡ Some n.0 }
@@ -24,6 +24,7 @@ pub fn number_stays(old: &VarTable, new: &VarTable, n: VarNo, v: &Var)
 {}
 
 /// A set has the same variables while the table grows, those among them that are numbered only then.
+/// The statement of kept sets asks for it.
 pub fn set_stays(old: &VarTable, new: &VarTable, set: &VarSet)
     requires grows { Grows old.now new.now }
     requires within { IsWithin old.now set.now }

@@ -30,7 +30,8 @@ pub(super) fn leaf<S: Store, L: Ledger>(
     steps: &mut Steps<L>,
 ) -> Result<Row, StepFault>
     requires { IsKnown (S.trees store.now) s.now }
-    ensures given { IfOk result (λ row. (rows : List Provable) → Gives rows (Leaf (sequent_at (S.trees store.now) s.now)) (provable_at (S.trees store.now) row)) }
+    ensures given { IfOk result (λ row. (rows : List Provable) →
+        Gives rows (Leaf (sequent_at (S.trees store.now) s.now)) (provable_at (S.trees store.now) row)) }
     ensures within { IfOk result (λ row. IsWithin (Leaf (sequent_at (S.trees store.now) s.now)) (provable_at (S.trees store.now) row)) }
     ensures known { IfOk result (IsKnownRow (S.trees store.now)) }
     ensures fault { IfErr result (IsStepFault (λ why. (rows : List Provable) → Fault rows (Leaf (sequent_at (S.trees store.now) s.now)) why)) }

@@ -40,7 +40,8 @@ pub(crate) fn give<S: Store, L: Ledger>(
     requires rows { All (IsKnownRow (S.trees store.old)) rows.now }
     requires formulas { All HasFormulas (provables_at (S.trees store.old) rows.now) }
     requires limited { All IsLimited (provables_at (S.trees store.old) rows.now) }
-    ensures given { IfOk result (λ row. Gives (provables_at (S.trees store.old) rows.now) (step_at (S.trees store.old) step.now) (provable_at (S.trees store.new) row)) }
+    ensures given { IfOk result (λ row.
+        Gives (provables_at (S.trees store.old) rows.now) (step_at (S.trees store.old) step.now) (provable_at (S.trees store.new) row)) }
     ensures within { IfOk result (λ row. IsWithin (step_at (S.trees store.old) step.now) (provable_at (S.trees store.new) row)) }
     ensures known { IfOk result (IsKnownRow (S.trees store.new)) }
     ensures fault { IfErr result (IsStepFault (Fault (provables_at (S.trees store.old) rows.now) (step_at (S.trees store.old) step.now))) }

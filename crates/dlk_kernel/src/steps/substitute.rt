@@ -34,12 +34,14 @@ pub(super) fn substitute<S: Store, L: Ledger>(
 ) -> Result<Row, StepFault>
     requires pairs { AreKnownPairs (S.trees store.old) pairs.now }
     requires rows { All (IsKnownRow (S.trees store.old)) rows.now }
-    ensures given { IfOk result (λ row. Gives (provables_at (S.trees store.old) rows.now) (Substitute fact (pairs_at (S.trees store.old) pairs.now)) (provable_at (S.trees store.new) row)) }
+    ensures given { IfOk result (λ row.
+        Gives (provables_at (S.trees store.old) rows.now) (Substitute fact (pairs_at (S.trees store.old) pairs.now)) (provable_at (S.trees store.new) row)) }
     ensures within { IfOk result (λ row. IsWithin (Substitute fact (pairs_at (S.trees store.old) pairs.now)) (provable_at (S.trees store.new) row)) }
     ensures known { IfOk result (IsKnownRow (S.trees store.new)) }
     ensures fault { IfErr result (IsStepFault (Fault (provables_at (S.trees store.old) rows.now) (Substitute fact (pairs_at (S.trees store.old) pairs.now)))) }
     ensures grows { S.grows store.old store.new }
-    ensures looks { IsTrue S.unique → LooksAtFew (provables_at (S.trees store.old) rows.now) (Substitute fact (pairs_at (S.trees store.old) pairs.now)) steps.old steps.new }
+    ensures looks { IsTrue S.unique →
+        LooksAtFew (provables_at (S.trees store.old) rows.now) (Substitute fact (pairs_at (S.trees store.old) pairs.now)) steps.old steps.new }
 {
     let Some(row) = item_at(rows, fact) else {
         return Err(StepFault::Refused(Reason::NoFact));

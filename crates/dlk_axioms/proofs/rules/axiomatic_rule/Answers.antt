@@ -32,12 +32,15 @@ returns-clause-rule g c =
 
 pub returns-in_err-conclusion-clause-grows : goal.returns-in_err-conclusion-clause-grows
 returns-in_err-conclusion-clause-grows g c =
-    g.met.S.Store.grows_trans c.args.store.now c.make_alone_right.new.store c.make_alone_right-2.new.store c.make_alone_right.ensures.grows c.make_alone_right-2.ensures.grows
+    g.met.S.Store.grows_trans c.args.store.now c.make_alone_right.new.store c.make_alone_right-2.new.store c.make_alone_right.ensures.grows
+    c.make_alone_right-2.ensures.grows
 
 pub returns-in_err-premises-clause-grows : goal.returns-in_err-premises-clause-grows
 returns-in_err-premises-clause-grows g c =
-    g.met.S.Store.grows_trans c.args.store.now c.make_alone_right.new.store c.make_alone_right-2.new.store c.make_alone_right.ensures.grows c.make_alone_right-2.ensures.grows
+    g.met.S.Store.grows_trans c.args.store.now c.make_alone_right.new.store c.make_alone_right-2.new.store c.make_alone_right.ensures.grows
+    c.make_alone_right-2.ensures.grows
 
 pub returns-clause-grows : goal.returns-clause-grows
 returns-clause-grows g c =
-    g.met.S.Store.grows_trans c.args.store.now c.make_alone_right.new.store c.make_alone_right-2.new.store c.make_alone_right.ensures.grows c.make_alone_right-2.ensures.grows
+    g.met.S.Store.grows_trans c.args.store.now c.make_alone_right.new.store c.make_alone_right-2.new.store c.make_alone_right.ensures.grows
+    c.make_alone_right-2.ensures.grows

@@ -97,8 +97,10 @@ returns-clause-kept g c =
 
 pub returns-in_err-take_in_turn-clause-grows : goal.returns-in_err-take_in_turn-clause-grows
 returns-in_err-take_in_turn-clause-grows g c =
-    g.met.S.Store.grows_trans c.args.kernel.now.store c.planned.new.kernel.store c.take_in_turn.new.kernel.store c.planned.ensures.grows c.take_in_turn.ensures.grows
+    g.met.S.Store.grows_trans c.args.kernel.now.store c.planned.new.kernel.store c.take_in_turn.new.kernel.store c.planned.ensures.grows
+    c.take_in_turn.ensures.grows
 
 pub returns-clause-grows : goal.returns-clause-grows
 returns-clause-grows g c =
-    g.met.S.Store.grows_trans c.args.kernel.now.store c.planned.new.kernel.store c.take_in_turn.new.kernel.store c.planned.ensures.grows c.take_in_turn.ensures.grows
+    g.met.S.Store.grows_trans c.args.kernel.now.store c.planned.new.kernel.store c.take_in_turn.new.kernel.store c.planned.ensures.grows
+    c.take_in_turn.ensures.grows

@@ -267,7 +267,8 @@ returns-in_err-rest-clause-kept g c =
     let tr = g.S.Store.trees in let a = c.args.kernel.now in let b = c.find.new.kernel in
     let d = c.take_in_turn.new.kernel in
     let e = c.behind.new.kernel in
-    rows_same_after tr a d e (rows_longer tr a b d (rows_same_after tr a a b (rows_stay tr a) c.find.ensures.same) c.take_in_turn.ensures.kept) c.behind.ensures.same
+    rows_same_after tr a d e
+    (rows_longer tr a b d (rows_same_after tr a a b (rows_stay tr a) c.find.ensures.same) c.take_in_turn.ensures.kept) c.behind.ensures.same
 
 pub returns-in_err-take_in_turn-2-clause-kept : goal.returns-in_err-take_in_turn-2-clause-kept
 returns-in_err-take_in_turn-2-clause-kept g c =
@@ -276,7 +277,8 @@ returns-in_err-take_in_turn-2-clause-kept g c =
     let e = c.behind.new.kernel in
     let f = c.take_in_turn-2.new.kernel in
     rows_longer tr a e f
-    (rows_same_after tr a d e (rows_longer tr a b d (rows_same_after tr a a b (rows_stay tr a) c.find.ensures.same) c.take_in_turn.ensures.kept) c.behind.ensures.same)
+    (rows_same_after tr a d e
+    (rows_longer tr a b d (rows_same_after tr a a b (rows_stay tr a) c.find.ensures.same) c.take_in_turn.ensures.kept) c.behind.ensures.same)
     c.take_in_turn-2.ensures.kept
 
 pub returns-in_err-all-clause-kept : goal.returns-in_err-all-clause-kept
@@ -286,7 +288,8 @@ returns-in_err-all-clause-kept g c =
     let e = c.behind.new.kernel in
     let f = c.take_in_turn-2.new.kernel in
     rows_longer tr a e f
-    (rows_same_after tr a d e (rows_longer tr a b d (rows_same_after tr a a b (rows_stay tr a) c.find.ensures.same) c.take_in_turn.ensures.kept) c.behind.ensures.same)
+    (rows_same_after tr a d e
+    (rows_longer tr a b d (rows_same_after tr a a b (rows_stay tr a) c.find.ensures.same) c.take_in_turn.ensures.kept) c.behind.ensures.same)
     c.take_in_turn-2.ensures.kept
 
 pub returns-clause-kept : goal.returns-clause-kept
@@ -296,5 +299,6 @@ returns-clause-kept g c =
     let e = c.behind.new.kernel in
     let f = c.take_in_turn-2.new.kernel in
     rows_longer tr a e f
-    (rows_same_after tr a d e (rows_longer tr a b d (rows_same_after tr a a b (rows_stay tr a) c.find.ensures.same) c.take_in_turn.ensures.kept) c.behind.ensures.same)
+    (rows_same_after tr a d e
+    (rows_longer tr a b d (rows_same_after tr a a b (rows_stay tr a) c.find.ensures.same) c.take_in_turn.ensures.kept) c.behind.ensures.same)
     c.take_in_turn-2.ensures.kept

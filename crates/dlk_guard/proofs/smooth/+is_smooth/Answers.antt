@@ -14,7 +14,8 @@ loop-kid-init g t c =
     let ks = c.look-node.result.kids.now in
     let e = c.look-node.ensures.node in
     record {
-      rest = sym (ap (is_smooth domain) e ∙ ap (λ b. b && are_smooth domain (kid_trees trees ks)) (sym c.joins_smooth.ensures.value ∙ c.if-not-joins_smooth.false));
+      rest = sym (ap (is_smooth domain) e ∙
+          ap (λ b. b && are_smooth domain (kid_trees trees ks)) (sym c.joins_smooth.ensures.value ∙ c.if-not-joins_smooth.false));
       known = c.look-node.ensures.known;
       cost = smooth_begins (length c.args.domain.now) _ _ (tree trees c.args.id) c.look-node.result.op.now (kid_trees trees ks) e
           (omega (arith, c.look-node.ensures.step, c.joins_smooth.ensures.cost));

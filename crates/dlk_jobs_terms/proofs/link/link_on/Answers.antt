@@ -8,32 +8,55 @@ use Rattle.dlk_replies.specs.Ended.{EndsIn}
 use Rattle.dlk_replies.specs.Shown.{reply_of}
 use Rattle.dlk_replies.proofs.Ends.{ends_weaker, ends_so}
 use Rattle.dlk_rules.specs.Steps.{step_at}
-use Rattle.dlk_jobs_check.specs.Judged.{RefusesLine}
+use Rattle.dlk_sequent.proofs.Kept.{IsId-kept}
+use Rattle.dlk_jobs_check.specs.Judged.{RefusesModel, RefusesLine}
+use Rattle.dlk_jobs_check.proofs.Judging.{model_refuses}
 use Rattle.dlk_jobs_check.specs.Terms.{RefusesTerm}
 use Rattle.dlk_jobs_terms.specs.Links.{Links, refuses}
 use Rattle.dlk_jobs_terms.specs.Made.{RecordsLast}
 use Rattle.dlk_jobs_terms.specs.Refused.{IsLinkRefused}
 use Rattle.dlk_jobs_terms.proofs.EndLaws.{one_ending, replay_takes, replay_ends, linked_some}
 use Rattle.dlk_jobs_terms.proofs.JobAnswers.{lemma_answer, link_answer, fault_answer}
-use Rattle.dlk_jobs_terms.proofs.Staying.{still_same, lemma_stays}
+use Rattle.dlk_jobs_terms.proofs.Staying.{still_same, lemma_stays, model_stays}
 use Rattle.dlk_jobs_terms.proofs.link.link_on.Goals as goal
+
+pub returns-in_err-formula-clause-ended : goal.returns-in_err-formula-clause-ended
+returns-in_err-formula-clause-ended g c =
+    let model = c.args.model.now in
+    let term = c.args.term.now in
+    let lemma = c.args.lemma.now in
+    let p = err_from_is_err_and c.from_residual.result c.from_residual.ensures.1 in
+    rw (p.1, p.2) (ends_weaker (RefusesModel model) (Links model term lemma) (λ reply is. refuses reply (model_refuses model term reply is)) _
+    c.in_err-formula.ensures.refused)
+
+pub taken_for-requires-clause-formula : goal.taken_for-requires-clause-formula
+taken_for-requires-clause-formula g c =
+    let read = c.read_model.new.store.store in
+    let here = c.taken_lemma-lemma.new.kernel.store in
+    IsId-kept (g.met.S.Store.grows_keeps read here c.taken_lemma-lemma.ensures.grows) c.in_ok-formula.formula c.in_ok-formula.ensures.found.2.known
 
 pub returns-in_err-main-clause-ended : goal.returns-in_err-main-clause-ended
 returns-in_err-main-clause-ended g c =
     let model = c.args.model.now in
     let term = c.args.term.now in
     let lemma = c.args.lemma.now in
-    let p = err_from_is_err_and c.from_residual.result c.from_residual.ensures.1 in
-    rw (p.1, p.2) (ends_weaker (RefusesTerm model term) (Links model term lemma) refuses _ c.in_err-main.ensures.refused)
+    let here = c.taken_lemma-lemma.new.kernel.store in
+    let held = g.met.S.Store.grows_keeps c.read_model.new.store.store here c.taken_lemma-lemma.ensures.grows in
+    let reads = model_stays held c.in_ok-formula.ensures.found in
+    let p = err_from_is_err_and c.from_residual-in_err-main.result c.from_residual-in_err-main.ensures.1 in
+    rw (p.1, p.2) (ends_weaker (RefusesTerm model term) (Links model term lemma) refuses _ (c.in_err-main.ensures.refused model reads))
 
 pub returns-in_err-by-clause-ended : goal.returns-in_err-by-clause-ended
 returns-in_err-by-clause-ended g c =
     let model = c.args.model.now in
     let term = c.args.term.now in
     let lemma = c.args.lemma.now in
-    let rows = facts g.S.Store.trees c.taken.new.kernel in
-    let main = c.in_ok-main.ensures.taken in
-    let steps = map (step_at (g.S.Store.trees c.taken.new.kernel.store)) c.in_ok-main.main.items in
+    let rows = facts g.S.Store.trees c.taken_for.new.kernel in
+    let here = c.taken_lemma-lemma.new.kernel.store in
+    let held = g.met.S.Store.grows_keeps c.read_model.new.store.store here c.taken_lemma-lemma.ensures.grows in
+    let reads = model_stays held c.in_ok-formula.ensures.found in
+    let main = c.in_ok-main.ensures.taken model reads in
+    let steps = map (step_at (g.S.Store.trees c.taken_for.new.kernel.store)) c.in_ok-main.main.items in
     let p = err_from_is_err_and c.from_residual-in_err-by.result c.from_residual-in_err-by.ensures.1 in
     rw (p.1, p.2) (ends_weaker (RefusesLine (codes "lemma line") lemma) (Links model term lemma) (lemma_answer model term lemma steps rows main.0 main.1) _
     (rw c.in_err-by.was at c.taken_lemma-lemma.ensures.refused))
@@ -41,16 +64,22 @@ returns-in_err-by-clause-ended g c =
 pub link-requires-clause-taken : goal.link-requires-clause-taken
 link-requires-clause-taken g c =
     let trees = g.S.Store.trees in
-    let kernel = c.taken.new.kernel in
-    let main = c.in_ok-main.ensures.taken in
+    let kernel = c.taken_for.new.kernel in
+    let here = c.taken_lemma-lemma.new.kernel.store in
+    let held = g.met.S.Store.grows_keeps c.read_model.new.store.store here c.taken_lemma-lemma.ensures.grows in
+    let reads = model_stays held c.in_ok-formula.ensures.found in
+    let main = c.in_ok-main.ensures.taken c.args.model.now reads in
     replay_takes c.accepted_says_steps.ensures.taken c.args.term.now (map (step_at (trees kernel.store)) c.in_ok-main.main.items) (facts trees kernel) main.0
     main.1.replays
 
 pub link-requires-clause-term_ends : goal.link-requires-clause-term_ends
 link-requires-clause-term_ends g c =
     let trees = g.S.Store.trees in
-    let kernel = c.taken.new.kernel in
-    let main = c.in_ok-main.ensures.taken in (
+    let kernel = c.taken_for.new.kernel in
+    let here = c.taken_lemma-lemma.new.kernel.store in
+    let held = g.met.S.Store.grows_keeps c.read_model.new.store.store here c.taken_lemma-lemma.ensures.grows in
+    let reads = model_stays held c.in_ok-formula.ensures.found in
+    let main = c.in_ok-main.ensures.taken c.args.model.now reads in (
       main.0,
       replay_ends c.accepted_says_steps.ensures.taken c.args.term.now (map (step_at (trees kernel.store)) c.in_ok-main.main.items) (facts trees kernel)
           main.0 main.1.replays,
@@ -60,9 +89,9 @@ pub link-requires-clause-lemma_known : goal.link-requires-clause-lemma_known
 link-requires-clause-lemma_known g c =
     let trees = g.S.Store.trees in
     let old = c.taken_lemma-lemma.new.kernel.store in
-    let kernel = c.taken.new.kernel in
+    let kernel = c.taken_for.new.kernel in
     let new = kernel.store in
-    let keeps = g.met.S.Store.grows_keeps old new c.taken.ensures.grows in
+    let keeps = g.met.S.Store.grows_keeps old new c.taken_for.ensures.grows in
     let by = lemma_stays c.step_stays.ensures.known c.step_stays.ensures.same (trees old) (trees new) keeps c.args.lemma.now c.in_ok-by.by
     (rw c.in_ok-by.was at c.taken_lemma-lemma.ensures.lemma) in
     by.steps_known
@@ -71,9 +100,9 @@ pub link-requires-clause-lemma_ends : goal.link-requires-clause-lemma_ends
 link-requires-clause-lemma_ends g c =
     let trees = g.S.Store.trees in
     let old = c.taken_lemma-lemma.new.kernel.store in
-    let kernel = c.taken.new.kernel in
+    let kernel = c.taken_for.new.kernel in
     let new = kernel.store in
-    let keeps = g.met.S.Store.grows_keeps old new c.taken.ensures.grows in
+    let keeps = g.met.S.Store.grows_keeps old new c.taken_for.ensures.grows in
     let by = lemma_stays c.step_stays.ensures.known c.step_stays.ensures.same (trees old) (trees new) keeps c.args.lemma.now c.in_ok-by.by
     (rw c.in_ok-by.was at c.taken_lemma-lemma.ensures.lemma) in
     let others = map (step_at (trees new)) c.in_ok-by.by.steps.items in
@@ -83,9 +112,9 @@ pub link-requires-clause-conclusion : goal.link-requires-clause-conclusion
 link-requires-clause-conclusion g c = λ q ends.
     let trees = g.S.Store.trees in
     let old = c.taken_lemma-lemma.new.kernel.store in
-    let kernel = c.taken.new.kernel in
+    let kernel = c.taken_for.new.kernel in
     let new = kernel.store in
-    let keeps = g.met.S.Store.grows_keeps old new c.taken.ensures.grows in
+    let keeps = g.met.S.Store.grows_keeps old new c.taken_for.ensures.grows in
     let by = lemma_stays c.step_stays.ensures.known c.step_stays.ensures.same (trees old) (trees new) keeps c.args.lemma.now c.in_ok-by.by
     (rw c.in_ok-by.was at c.taken_lemma-lemma.ensures.lemma) in
     let others = map (step_at (trees new)) c.in_ok-by.by.steps.items in
@@ -96,9 +125,9 @@ pub link-requires-clause-conclusion_known : goal.link-requires-clause-conclusion
 link-requires-clause-conclusion_known g c =
     let trees = g.S.Store.trees in
     let old = c.taken_lemma-lemma.new.kernel.store in
-    let kernel = c.taken.new.kernel in
+    let kernel = c.taken_for.new.kernel in
     let new = kernel.store in
-    let keeps = g.met.S.Store.grows_keeps old new c.taken.ensures.grows in
+    let keeps = g.met.S.Store.grows_keeps old new c.taken_for.ensures.grows in
     let by = lemma_stays c.step_stays.ensures.known c.step_stays.ensures.same (trees old) (trees new) keeps c.args.lemma.now c.in_ok-by.by
     (rw c.in_ok-by.was at c.taken_lemma-lemma.ensures.lemma) in
     by.known
@@ -110,12 +139,14 @@ returns-in-Err-clause-ended g c =
     let lemma = c.args.lemma.now in
     let trees = g.S.Store.trees in
     let old = c.taken_lemma-lemma.new.kernel.store in
-    let kernel = c.taken.new.kernel in
+    let kernel = c.taken_for.new.kernel in
     let new = kernel.store in
-    let keeps = g.met.S.Store.grows_keeps old new c.taken.ensures.grows in
+    let keeps = g.met.S.Store.grows_keeps old new c.taken_for.ensures.grows in
     let by = lemma_stays c.step_stays.ensures.known c.step_stays.ensures.same (trees old) (trees new) keeps c.args.lemma.now c.in_ok-by.by
     (rw c.in_ok-by.was at c.taken_lemma-lemma.ensures.lemma) in
-    let main = c.in_ok-main.ensures.taken in
+    let held = g.met.S.Store.grows_keeps c.read_model.new.store.store old c.taken_lemma-lemma.ensures.grows in
+    let reads = model_stays held c.in_ok-formula.ensures.found in
+    let main = c.in_ok-main.ensures.taken model reads in
     let steps = map (step_at (trees new)) c.in_ok-main.main.items in
     let others = map (step_at (trees new)) c.in_ok-by.by.steps.items in
     let why = c.in-Err.fault in
@@ -131,12 +162,14 @@ record_taken-requires-clause-some g c =
     let lemma = c.args.lemma.now in
     let trees = g.S.Store.trees in
     let old = c.taken_lemma-lemma.new.kernel.store in
-    let kernel = c.taken.new.kernel in
+    let kernel = c.taken_for.new.kernel in
     let new = kernel.store in
-    let keeps = g.met.S.Store.grows_keeps old new c.taken.ensures.grows in
+    let keeps = g.met.S.Store.grows_keeps old new c.taken_for.ensures.grows in
     let by = lemma_stays c.step_stays.ensures.known c.step_stays.ensures.same (trees old) (trees new) keeps c.args.lemma.now c.in_ok-by.by
     (rw c.in_ok-by.was at c.taken_lemma-lemma.ensures.lemma) in
-    let main = c.in_ok-main.ensures.taken in
+    let held = g.met.S.Store.grows_keeps c.read_model.new.store.store old c.taken_lemma-lemma.ensures.grows in
+    let reads = model_stays held c.in_ok-formula.ensures.found in
+    let main = c.in_ok-main.ensures.taken c.args.model.now reads in
     let steps = map (step_at (trees new)) c.in_ok-main.main.items in
     let others = map (step_at (trees new)) c.in_ok-by.by.steps.items in
     let linked = c.in-Ok.linked.items in
@@ -154,7 +187,7 @@ record_taken-requires-clause-some g c =
 pub record_taken-requires-clause-takes : goal.record_taken-requires-clause-takes
 record_taken-requires-clause-takes g c =
     let trees = g.S.Store.trees in
-    let old = c.taken.new.kernel.store in
+    let old = c.taken_for.new.kernel.store in
     let new = c.link.new.kernel.store in
     let keeps = g.met.S.Store.grows_keeps old new c.link.ensures.grows in
     let items = c.in-Ok.linked.items in
@@ -169,12 +202,14 @@ returns-clause-reply g c =
     let lemma = c.args.lemma.now in
     let trees = g.S.Store.trees in
     let old = c.taken_lemma-lemma.new.kernel.store in
-    let kernel = c.taken.new.kernel in
+    let kernel = c.taken_for.new.kernel in
     let new = kernel.store in
-    let keeps = g.met.S.Store.grows_keeps old new c.taken.ensures.grows in
+    let keeps = g.met.S.Store.grows_keeps old new c.taken_for.ensures.grows in
     let by = lemma_stays c.step_stays.ensures.known c.step_stays.ensures.same (trees old) (trees new) keeps c.args.lemma.now c.in_ok-by.by
     (rw c.in_ok-by.was at c.taken_lemma-lemma.ensures.lemma) in
-    let main = c.in_ok-main.ensures.taken in
+    let held = g.met.S.Store.grows_keeps c.read_model.new.store.store old c.taken_lemma-lemma.ensures.grows in
+    let reads = model_stays held c.in_ok-formula.ensures.found in
+    let main = c.in_ok-main.ensures.taken model reads in
     let steps = map (step_at (trees new)) c.in_ok-main.main.items in
     let others = map (step_at (trees new)) c.in_ok-by.by.steps.items in
     let last = c.link.new.kernel.store in
@@ -194,12 +229,14 @@ returns-clause-ended g c =
     let lemma = c.args.lemma.now in
     let trees = g.S.Store.trees in
     let old = c.taken_lemma-lemma.new.kernel.store in
-    let kernel = c.taken.new.kernel in
+    let kernel = c.taken_for.new.kernel in
     let new = kernel.store in
-    let keeps = g.met.S.Store.grows_keeps old new c.taken.ensures.grows in
+    let keeps = g.met.S.Store.grows_keeps old new c.taken_for.ensures.grows in
     let by = lemma_stays c.step_stays.ensures.known c.step_stays.ensures.same (trees old) (trees new) keeps c.args.lemma.now c.in_ok-by.by
     (rw c.in_ok-by.was at c.taken_lemma-lemma.ensures.lemma) in
-    let main = c.in_ok-main.ensures.taken in
+    let held = g.met.S.Store.grows_keeps c.read_model.new.store.store old c.taken_lemma-lemma.ensures.grows in
+    let reads = model_stays held c.in_ok-formula.ensures.found in
+    let main = c.in_ok-main.ensures.taken model reads in
     let steps = map (step_at (trees new)) c.in_ok-main.main.items in
     let others = map (step_at (trees new)) c.in_ok-by.by.steps.items in
     let last = c.link.new.kernel.store in

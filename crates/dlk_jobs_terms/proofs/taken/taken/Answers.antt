@@ -1,29 +1,37 @@
-use Rattle.std.proofs.Common.{◌≡◌, subst, ◌∙◌, codes}
-use Rattle.std.proofs.lemmas.Result.{err_from_is_err_and}
-use Rattle.dlk_calculus.specs.Places.{At}
+use Rattle.std.proofs.Common.{ℕ, List, map, sym, subst}
+use Rattle.std.proofs.lemmas.Result.{IfOk-weaker, err_from_is_err_and}
 use Rattle.dlk_calculus.specs.Provables.{Provable}
-use Rattle.dlk_tree.specs.Trees.{Tree}
 use Rattle.dlk_store.specs.Stores.{tree}
 use Rattle.dlk_kernel.specs.Kernel.{facts}
+use Rattle.dlk_rules.specs.Steps.{step_at}
 use Rattle.dlk_replies.proofs.Ends.{ends_weaker}
-use Rattle.dlk_jobs_check.specs.Terms.{proves, RefusesTerm}
-use Rattle.dlk_jobs_check.specs.Judged.{RefusesModel, RefusesLine, RefusesConclusion}
-use Rattle.dlk_jobs_check.proofs.Judging.{model_refuses, line_refuses}
-use Rattle.dlk_jobs_terms.proofs.KeptSteps.{takes, conclusion_refuses}
+use Rattle.dlk_jobs_check.specs.Terms.{ModelText, TakesTerm, RefusesTerm}
+use Rattle.dlk_jobs_check.specs.Judged.{RefusesModel}
+use Rattle.dlk_jobs_check.proofs.Judging.{model_refuses}
 use Rattle.dlk_jobs_terms.proofs.taken.taken.Goals as goal
 
 pub returns-clause-taken : goal.returns-clause-taken
 returns-clause-taken g c =
-    let read = c.in_ok-formula.ensures.found in
+    let model = c.args.model.now in
+    let term = c.args.term.now in
     let trees = g.S.Store.trees in
-    let kernel = c.replayed.new.kernel in
-    let rows = facts trees kernel in
-    let keeps = g.met.S.Store.grows_keeps c.read_model.new.store.store kernel.store c.replayed.ensures.grows in
-    let same : tree (trees kernel.store) c.in_ok-formula.formula ≡ read.0 = keeps.same c.in_ok-formula.formula read.2.known ∙ read.2.tree_is in
-    let outcome = c.in_ok-outcome.outcome in
-    let kept = c.in_ok-outcome.ensures.kept in
-    let shown = subst (λ (f : Tree). (p : Provable) → At rows outcome.fact p → p.conclusion ≡ proves f) same c.in_ok-judge.ensures.shown in
-    (kept.last, takes (trees kernel.store) c.args.term.now rows outcome kept c.args.model.now read.0 read.1 shown)
+    let kernel = c.taken_for.new.kernel in
+    let old = c.read_model.new.store.store in
+    let read = c.in_ok-formula.ensures.found in
+    let formula = c.in_ok-formula.formula in
+    let reads : ModelText model (tree (trees old) formula) = subst (ModelText model) (sym read.2.tree_is) read.1 in
+    IfOk-weaker c.taken_for.result
+    (λ kept. (model : List ℕ) → ModelText model (tree (trees old) formula) →
+    (p : Provable) × TakesTerm model term (map (step_at (trees kernel.store)) kept.items) (facts trees kernel) p)
+    (λ kept. (p : Provable) × TakesTerm model term (map (step_at (trees kernel.store)) kept.items) (facts trees kernel) p)
+    (λ kept is. is model reads) c.taken_for.ensures.taken
+
+pub returns-clause-refused : goal.returns-clause-refused
+returns-clause-refused g c =
+    let model = c.args.model.now in
+    let trees = g.S.Store.trees in
+    let read = c.in_ok-formula.ensures.found in
+    c.taken_for.ensures.refused model (subst (ModelText model) (sym read.2.tree_is) read.1)
 
 pub returns-in_err-formula-clause-refused : goal.returns-in_err-formula-clause-refused
 returns-in_err-formula-clause-refused g c =
@@ -31,30 +39,3 @@ returns-in_err-formula-clause-refused g c =
     let term = c.args.term.now in
     let p = err_from_is_err_and c.from_residual.result c.from_residual.ensures.1 in
     rw (p.1, p.2) (ends_weaker (RefusesModel model) (RefusesTerm model term) (model_refuses model term) _ c.in_err-formula.ensures.refused)
-
-pub returns-in_err-outcome-clause-refused : goal.returns-in_err-outcome-clause-refused
-returns-in_err-outcome-clause-refused g c =
-    let model = c.args.model.now in
-    let term = c.args.term.now in
-    let read = c.in_ok-formula.ensures.found in
-    let p = err_from_is_err_and c.from_residual-in_err-outcome.result c.from_residual-in_err-outcome.ensures.1 in
-    rw (p.1, p.2) (ends_weaker (RefusesLine (codes "line") term) (RefusesTerm model term) (line_refuses model term read.0 read.1) _
-    c.in_err-outcome.ensures.refused)
-
-pub returns-in_err-judge-clause-refused : goal.returns-in_err-judge-clause-refused
-returns-in_err-judge-clause-refused g c =
-    let model = c.args.model.now in
-    let term = c.args.term.now in
-    let trees = g.S.Store.trees in
-    let kernel = c.replayed.new.kernel in
-    let read = c.in_ok-formula.ensures.found in
-    let rows = facts trees kernel in
-    let keeps = g.met.S.Store.grows_keeps c.read_model.new.store.store kernel.store c.replayed.ensures.grows in
-    let same : tree (trees kernel.store) c.in_ok-formula.formula ≡ read.0 = keeps.same c.in_ok-formula.formula read.2.known ∙ read.2.tree_is in
-    let outcome = c.in_ok-outcome.outcome in
-    let p = err_from_is_err_and c.from_residual-in_err-judge.result c.from_residual-in_err-judge.ensures.1 in
-    rw (p.1, p.2) (ends_weaker (λ reply. (p : Provable) → At rows outcome.fact p →
-    RefusesConclusion (tree (trees kernel.store) c.in_ok-formula.formula) outcome.line p reply)
-    (RefusesTerm model term)
-    (λ reply refused. conclusion_refuses (trees kernel.store) term rows outcome c.in_ok-outcome.ensures.kept model read.0 read.1 reply
-    (subst (λ (f : Tree). (p : Provable) → At rows outcome.fact p → RefusesConclusion f outcome.line p reply) same refused)) _ c.in_err-judge.ensures.refused)

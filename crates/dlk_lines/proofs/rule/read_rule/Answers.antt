@@ -19,7 +19,8 @@ returns-in_err-arguments-clause-fault g c =
     let e = err_from_is_err_and c.from_residual.result c.from_residual.ensures.1 in
     let same = c.in-Some-of_bytes.ensures.found in
     rw (e.1, e.2)
-    (fault_of_whole (no_arguments _ c.args.text.now _ _ c.in-Some-of_bytes.word _ c.in-Some.ensures.found same c.shape.ensures) _ c.in_err-arguments.ensures.fault)
+    (fault_of_whole (no_arguments _ c.args.text.now _ _ c.in-Some-of_bytes.word _ c.in-Some.ensures.found same c.shape.ensures) _
+    c.in_err-arguments.ensures.fault)
 
 pub returns-in-Some-rule-clause-found : goal.returns-in-Some-rule-clause-found
 returns-in-Some-rule-clause-found g c =

@@ -91,7 +91,8 @@ returns-in_err-made-clause-spends g t c =
     let m = c.loop-kid.invariant.made in
     let job = g.met.R.Rule.job_kept c.args.rule.now first ts m.kept c.requires.ready in
     let keeps = g.met.S.Store.grows_keeps c.loop-kid.store c.walk.new.store c.walk.ensures.grows in
-    kid_failed m g.S.Store.unique (g.R.Rule.looks (g.R.Rule.job c.args.rule.now first)) us keeps c.requires.known c.loop-kid-test.true c.in_ok-task.ensures.opened
+    kid_failed m g.S.Store.unique (g.R.Rule.looks (g.R.Rule.job c.args.rule.now first)) us keeps c.requires.known c.loop-kid-test.true
+    c.in_ok-task.ensures.opened
     c.loop-kid.invariant.spends (subst (λ j. Spends g.S.Store.unique (1 + g.R.Rule.looks j)
     (tree ts (get_or c.as_slice-kids.result.now c.loop-kid.kid-index (record { 0 = 0 }))) us c.loop-kid.done c.walk.new.done c.loop-kid.steps c.walk.new.steps)
     job c.walk.ensures.spends)
@@ -108,7 +109,8 @@ returns-in_err-new-clause-spends g t c =
     let m = c.loop-kid.invariant.made in
     let job = g.met.R.Rule.job_kept c.args.rule.now first ts m.kept c.requires.ready in
     let keeps = g.met.S.Store.grows_keeps c.loop-kid.store c.walk.new.store c.walk.ensures.grows in
-    kid_failed m g.S.Store.unique (g.R.Rule.looks (g.R.Rule.job c.args.rule.now first)) us keeps c.requires.known c.loop-kid-test.true c.in_ok-task.ensures.opened
+    kid_failed m g.S.Store.unique (g.R.Rule.looks (g.R.Rule.job c.args.rule.now first)) us keeps c.requires.known c.loop-kid-test.true
+    c.in_ok-task.ensures.opened
     c.loop-kid.invariant.spends (subst (λ j. Spends g.S.Store.unique (1 + g.R.Rule.looks j)
     (tree ts (get_or c.as_slice-kids.result.now c.loop-kid.kid-index (record { 0 = 0 }))) us c.loop-kid.done c.walk.new.done c.loop-kid.steps c.walk.new.steps)
     job c.walk.ensures.spends)

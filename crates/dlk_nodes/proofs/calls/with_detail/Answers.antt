@@ -1,6 +1,6 @@
 use Rattle.std.proofs.Common.{◌≡◌, length, rules}
 use Rattle.std.proofs.lemmas.Result.{err_from_is_err_and}
-use Rattle.dlk_nodes.proofs.Refusals.{fault_of_whole}
+use Rattle.dlk_lines.proofs.Refusals.{fault_of_whole}
 use Rattle.dlk_nodes.proofs.DetailLaws.{empty}
 use Rattle.dlk_nodes.proofs.OpsCut.{begins, no_detail_there, kids_needed, call_needed, call_read}
 use Rattle.dlk_nodes.proofs.calls.with_detail.Goals as goal

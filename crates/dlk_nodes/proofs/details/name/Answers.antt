@@ -1,6 +1,6 @@
 use Rattle.std.proofs.Common.{Err, refl, ap, ◌∙◌}
 use Rattle.std.proofs.lemmas.Result.{err_from_is_err_and}
-use Rattle.dlk_nodes.proofs.Refusals.{name_wants}
+use Rattle.dlk_lines.proofs.Refusals.{name_wants}
 use Rattle.dlk_nodes.proofs.details.name.Goals as goal
 
 pub returns-in_err-name-clause-memory : goal.returns-in_err-name-clause-memory

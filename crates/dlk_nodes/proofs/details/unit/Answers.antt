@@ -1,6 +1,6 @@
 use Rattle.std.proofs.Common.{[]}
 use Rattle.std.proofs.lemmas.Result.{err_from_is_err_and}
-use Rattle.dlk_nodes.proofs.Refusals.{fault_of_whole}
+use Rattle.dlk_lines.proofs.Refusals.{fault_of_whole}
 use Rattle.dlk_nodes.proofs.DetailLaws.{unit_parts, unit_name_needed, unit_taboo_needed, taboo_cut, some_left}
 use Rattle.dlk_nodes.proofs.details.unit.Goals as goal
 

@@ -1,6 +1,6 @@
 use Rattle.std.proofs.Common.{◌≡◌, Err, ap}
 use Rattle.std.proofs.lemmas.Result.{err_from_is_err_and}
-use Rattle.dlk_nodes.specs.declared.fault.NodeFault.TheVariants.{Memory}
+use Rattle.dlk_lines.specs.declared.fault.LineFault.TheVariants.{Memory}
 use Rattle.dlk_nodes.proofs.DetailLaws.{primed_parts, plain_spelled, primed_spelled, some_left, none_left}
 use Rattle.dlk_nodes.proofs.details.variable.Goals as goal
 

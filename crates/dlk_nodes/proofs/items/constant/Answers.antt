@@ -1,6 +1,6 @@
 use Rattle.std.proofs.Common.{◌≡◌, ◌∷◌, ◌++◌, true, false, refl, []}
 use Rattle.std.proofs.lemmas.Result.{err_from_is_err_and}
-use Rattle.dlk_nodes.proofs.Refusals.{fault_of_whole}
+use Rattle.dlk_lines.proofs.Refusals.{fault_of_whole}
 use Rattle.dlk_nodes.proofs.DetailLaws.{constant_parts, constant_again, constant_name_needed, constant_taboo_needed, bar_cut, taboo_cut, some_left, none_left}
 use Rattle.dlk_nodes.proofs.items.constant.Goals as goal
 

@@ -1,7 +1,7 @@
 use Rattle.std.proofs.Common.{refl}
 use Rattle.std.proofs.lemmas.Result.{err_from_is_err_and}
 use Rattle.dlk_nodes.specs.Details.{SpellsItem}
-use Rattle.dlk_nodes.proofs.Refusals.{fault_of_whole}
+use Rattle.dlk_lines.proofs.Refusals.{fault_of_whole}
 use Rattle.dlk_nodes.proofs.Parted.{one_more, none_in_cut, none_in_last, all_parts}
 use Rattle.dlk_nodes.proofs.items.each_item.Goals as goal
 

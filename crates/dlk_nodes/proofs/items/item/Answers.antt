@@ -1,5 +1,5 @@
 use Rattle.std.proofs.lemmas.Result.{err_from_is_err_and}
-use Rattle.dlk_nodes.proofs.Refusals.{fault_of_whole}
+use Rattle.dlk_lines.proofs.Refusals.{fault_of_whole}
 use Rattle.dlk_nodes.proofs.DetailLaws.{no_item, evolved_parts, evolved_name_needed, some_left}
 use Rattle.dlk_nodes.proofs.items.item.Goals as goal
 

@@ -3,7 +3,7 @@ use Rattle.std.specs.Prelude.{codes}
 use Rattle.std.proofs.lemmas.Result.{err_from_is_err_and}
 use Rattle.dlk_lines.proofs.Numbers.{number_cut}
 use Rattle.dlk_nodes.specs.Tables.{nodes_at}
-use Rattle.dlk_nodes.proofs.Refusals.{fault_of_whole}
+use Rattle.dlk_lines.proofs.Refusals.{fault_of_whole}
 use Rattle.dlk_nodes.proofs.ReadNode.{no_number, no_node, line_is}
 use Rattle.dlk_nodes.proofs.node.node_line.Goals as goal
 

@@ -5,7 +5,7 @@ use Rattle.dlk_tree.specs.Table.{Fits}
 use Rattle.dlk_tree.specs.Trees.{node}
 use Rattle.dlk_store.specs.Stores.{IsId, kid_trees, sorts_at, StandsFor}
 use Rattle.dlk_nodes.specs.Tables.{has}
-use Rattle.dlk_nodes.proofs.Refusals.{fault_of_whole}
+use Rattle.dlk_lines.proofs.Refusals.{fault_of_whole}
 use Rattle.dlk_nodes.proofs.ReadNode.{read_known, no_reading, not_fitting, not_new, not_within, is_new}
 use Rattle.dlk_nodes.proofs.node.read_node.Goals as goal
 

@@ -1,5 +1,5 @@
 use Rattle.std.proofs.lemmas.Result.{err_from_is_err_and}
-use Rattle.dlk_nodes.proofs.Refusals.{fault_of_whole}
+use Rattle.dlk_lines.proofs.Refusals.{fault_of_whole}
 use Rattle.dlk_nodes.proofs.OpsCut.{nothing_named, fields_found, fields_needed, space_needed}
 use Rattle.dlk_nodes.proofs.numbers.nodes_behind.Goals as goal
 

@@ -7,7 +7,7 @@ use Rattle.dlk_nodes.specs.Symbols.{SpellsOfSort}
 use Rattle.dlk_nodes.specs.Tables.{nodes_at}
 use Rattle.dlk_nodes.proofs.Numbered.{names_at}
 use Rattle.dlk_nodes.proofs.PairsFound.{sign_wanted, node_wanted, symbol_wanted, kind_wanted, pair_is}
-use Rattle.dlk_nodes.proofs.Refusals.{fault_of_whole}
+use Rattle.dlk_lines.proofs.Refusals.{fault_of_whole}
 use Rattle.dlk_nodes.proofs.SidesRead.{none_named, named_is}
 use Rattle.dlk_nodes.proofs.pairs.first_pair.Goals as goal
 

@@ -8,7 +8,7 @@ use Rattle.dlk_sequent.specs.declared.subst.Pair.{Pair}
 use Rattle.dlk_sequent.specs.Substitutions.{pair_at, pairs_at, AreKnownPairs}
 use Rattle.dlk_nodes.specs.Tables.{nodes_at}
 use Rattle.dlk_nodes.proofs.PairsFound.{PairsSoFar, pairs_begin, pair_wanted, pair_found, all_pairs}
-use Rattle.dlk_nodes.proofs.Refusals.{fault_of_whole}
+use Rattle.dlk_lines.proofs.Refusals.{fault_of_whole}
 use Rattle.dlk_nodes.proofs.pairs.read_pairs.Goals as goal
 
 pub loop-left-init : goal.loop-left-init

@@ -4,11 +4,11 @@ use Rattle.std.proofs.lemmas.Bool.{both_ways}
 use Rattle.std.proofs.lemmas.Bool.Decides.{Decides-eqb}
 use Rattle.std.proofs.lemmas.Result.{err_from_is_err_and}
 use Rattle.std.proofs.lemmas.Slice.Eq.{slice_eq-Decides}
-use Rattle.dlk_nodes.specs.declared.fault.NodeFault.TheVariants.{Memory}
+use Rattle.dlk_lines.specs.declared.fault.LineFault.TheVariants.{Memory}
 use Rattle.dlk_nodes.specs.Lines.{of_node, of_step, done}
 use Rattle.dlk_nodes.specs.Tables.{nodes_at}
 use Rattle.dlk_nodes.proofs.LineRead.{only_a_node, only_a_step}
-use Rattle.dlk_nodes.proofs.Refusals.{fault_of_whole, node_of_line}
+use Rattle.dlk_lines.proofs.Refusals.{fault_of_whole}
 use Rattle.dlk_nodes.proofs.reading.read_node_line.Goals as goal
 
 pub returns-then-eq-clause-found : goal.returns-then-eq-clause-found
@@ -28,7 +28,7 @@ returns-in_err-number-2-clause-fault g c =
     let e = err_from_is_err_and c.from_residual-in_err-number-2.result c.from_residual-in_err-number-2.ensures.1 in
     let unlike : c.args.line.now ≢ codes "done" = λ same.
     both_ways c.eq.result c.if-eq.false ((slice_eq-Decides Decides-eqb _ _ _ c.eq.ensures).1 (same ∙ sym c.as_slice.ensures)) in
-    rw (e.1, e.2) (node_of_line (only_a_step nodes c.args.line.now c.in_default.ensures.none unlike) _ c.in_err-number-2.ensures.fault)
+    rw (e.1, e.2) (fault_of_whole (only_a_step nodes c.args.line.now c.in_default.ensures.none unlike) _ c.in_err-number-2.ensures.fault)
 
 pub returns-in-Some-clause-found : goal.returns-in-Some-clause-found
 returns-in-Some-clause-found g c = rw c.in-Some.ensures.found (of_node c.in_ok-number.ensures.found)

@@ -6,7 +6,7 @@ use Rattle.dlk_tree.specs.declared.op.Sort.TheVariants.{Formula as OfFormulas}
 use Rattle.dlk_tree.specs.Trees.{sort}
 use Rattle.dlk_store.specs.Stores.{IsId}
 use Rattle.dlk_nodes.specs.Tables.{nodes_at}
-use Rattle.dlk_nodes.proofs.Refusals.{fault_of_whole}
+use Rattle.dlk_lines.proofs.Refusals.{fault_of_whole}
 use Rattle.dlk_nodes.proofs.SidesRead.{sides_wanted, sides_known, ante_wanted, succ_wanted, sequent_is}
 use Rattle.dlk_nodes.proofs.sequents.read_sequent.Goals as goal
 

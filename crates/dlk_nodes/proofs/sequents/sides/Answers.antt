@@ -1,6 +1,6 @@
 use Rattle.std.proofs.Common.{sym, subst}
 use Rattle.std.proofs.lemmas.Result.{err_from_is_err_and}
-use Rattle.dlk_nodes.proofs.Refusals.{fault_of_whole}
+use Rattle.dlk_lines.proofs.Refusals.{fault_of_whole}
 use Rattle.dlk_nodes.proofs.SidesRead.{SidesSoFar, no_sides_yet, sides_found, behind_needed, space_wanted, number_wanted, one_side_more}
 use Rattle.dlk_nodes.proofs.sequents.sides.Goals as goal
 

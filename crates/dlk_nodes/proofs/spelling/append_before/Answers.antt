@@ -1,39 +1,29 @@
-use Rattle.std.proofs.Common.{refl}
+use Rattle.std.proofs.Common.{◌++◌, refl}
 use Rattle.std.specs.Prelude.{codes}
 use Rattle.dlk_print.proofs.Left.{failed, partly, appended, unbegun, done}
-use Rattle.dlk_nodes.specs.Tables.{nodes_at}
-use Rattle.dlk_nodes.proofs.WrittenLaws.{before_left, none_before_left}
+use Rattle.dlk_nodes.specs.Tables.{id_text}
+use Rattle.dlk_nodes.proofs.WrittenLaws.{before_left, none_left}
 use Rattle.dlk_nodes.proofs.spelling.append_before.Goals as goal
 
 pub loop-id-init : goal.loop-id-init
-loop-id-init g c = unbegun c.args.out.now.items refl
+loop-id-init c = unbegun c.args.out.now.items refl
 
 pub returns-in_err-append_place : goal.returns-in_err-append_place
-returns-in_err-append_place g c =
-    let trees = g.S.Store.trees c.args.store.now in
-    let nodes = nodes_at trees c.args.table.now in
-    failed c.from_residual.result c.from_residual.ensures.0
-    (partly _ _ (before_left trees nodes c.args.ids.now c.loop-id.id-index _ c.loop-id-test.true c.loop-id.invariant) c.in_err-append_place.ensures.begun)
+returns-in_err-append_place c =
+    let at = before_left c.args.table.now c.args.ids.now c.loop-id.id-index _ c.loop-id-test.true c.loop-id.invariant in
+    failed c.from_residual.result c.from_residual.ensures.0 (partly _ _ at c.in_err-append_place.ensures.begun)
 
 pub returns-in_err-append : goal.returns-in_err-append
-returns-in_err-append g c =
-    let trees = g.S.Store.trees c.args.store.now in
-    let nodes = nodes_at trees c.args.table.now in
+returns-in_err-append c =
+    let at = before_left c.args.table.now c.args.ids.now c.loop-id.id-index _ c.loop-id-test.true c.loop-id.invariant in
     failed c.from_residual-in_err-append.result c.from_residual-in_err-append.ensures.0
-    (partly (codes " ") _ (appended _ _ (before_left trees nodes c.args.ids.now c.loop-id.id-index _ c.loop-id-test.true c.loop-id.invariant)
-    c.in_ok-append_place.ensures.ok)
-    c.in_err-append.ensures.begun)
+    (partly (codes " ") _ (appended _ _ at c.in_ok-append_place.ensures.ok) c.in_err-append.ensures.begun)
 
 pub loop-id-preserved : goal.loop-id-preserved
-loop-id-preserved g c =
-    let trees = g.S.Store.trees c.args.store.now in
-    let nodes = nodes_at trees c.args.table.now in
-    appended (codes " ") _ (appended _ _ (before_left trees nodes c.args.ids.now c.loop-id.id-index _ c.loop-id-test.true c.loop-id.invariant)
-    c.in_ok-append_place.ensures.ok)
-    c.in_ok-append.ensures.ok
+loop-id-preserved c =
+    let at = before_left c.args.table.now c.args.ids.now c.loop-id.id-index _ c.loop-id-test.true c.loop-id.invariant in
+    appended (codes " ") _ (appended _ _ at c.in_ok-append_place.ensures.ok) c.in_ok-append.ensures.ok
 
 pub returns : goal.returns
-returns g c =
-    let trees = g.S.Store.trees c.args.store.now in
-    let nodes = nodes_at trees c.args.table.now in
-    done _ (none_before_left trees nodes c.args.ids.now c.loop-id.id-index c.loop-id-test.false c.loop-id.invariant)
+returns c =
+    done _ (none_left (λ id. id_text c.args.table.now id ++ codes " ") c.args.ids.now c.loop-id.id-index c.loop-id-test.false c.loop-id.invariant)

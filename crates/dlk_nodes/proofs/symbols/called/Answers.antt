@@ -1,7 +1,7 @@
 use Rattle.std.proofs.Common.{sym, subst}
 use Rattle.std.proofs.lemmas.Result.{err_from_is_err_and}
 use Rattle.dlk_nodes.specs.Symbols.{AreDots}
-use Rattle.dlk_nodes.proofs.Refusals.{fault_of_whole, err_of_whole}
+use Rattle.dlk_lines.proofs.Refusals.{fault_of_whole, err_of_whole}
 use Rattle.dlk_nodes.proofs.SymbolForms.{dots_wanted, symbol_wanted, bars_wanted, name_wanted, taboo_wanted, unit_found}
 use Rattle.dlk_nodes.proofs.symbols.called.Goals as goal
 use Rattle.dlk_nodes.proofs.SymbolBack.{sym_of}

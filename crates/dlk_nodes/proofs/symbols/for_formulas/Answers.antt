@@ -1,5 +1,5 @@
 use Rattle.dlk_nodes.specs.Symbols.{of_formulas}
-use Rattle.dlk_nodes.proofs.Refusals.{err_of_whole}
+use Rattle.dlk_lines.proofs.Refusals.{err_of_whole}
 use Rattle.dlk_nodes.proofs.SymbolForms.{formulas_called, quant_wanted}
 use Rattle.dlk_nodes.proofs.symbols.for_formulas.Goals as goal
 

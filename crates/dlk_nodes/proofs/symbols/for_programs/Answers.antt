@@ -1,5 +1,5 @@
 use Rattle.std.proofs.lemmas.Result.{err_from_is_err_and}
-use Rattle.dlk_nodes.proofs.Refusals.{fault_of_whole}
+use Rattle.dlk_lines.proofs.Refusals.{fault_of_whole}
 use Rattle.dlk_nodes.proofs.SymbolForms.{end_wanted, constant_wanted}
 use Rattle.dlk_nodes.proofs.symbols.for_programs.Goals as goal
 

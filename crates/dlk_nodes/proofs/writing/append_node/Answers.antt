@@ -6,6 +6,7 @@ use Rattle.dlk_print.proofs.Left.{failed, partly, appended, last, same_text}
 use Rattle.dlk_nodes.specs.Tables.{nodes_at}
 use Rattle.dlk_nodes.specs.Words.{op_text}
 use Rattle.dlk_nodes.specs.Written.{kids_text, numbered_text}
+use Rattle.dlk_nodes.proofs.IdTexts.{kids_same}
 use Rattle.dlk_nodes.proofs.WrittenLaws.{line_left}
 use Rattle.dlk_nodes.proofs.writing.append_node.Goals as goal
 
@@ -66,5 +67,7 @@ returns-clause-text g c =
     let word = appended (codes "node ") _ none c.in_ok-append.ensures.ok in
     let number = appended (decimal c.args.number) _ word c.in_ok-append_decimal.ensures.ok in
     let space = appended (codes " ") _ number c.in_ok-append-2.ensures.ok in
+    let one = g.met.S.Store.one_id c.requires.unique c.args.store.now in
+    let same = kids_same trees one c.args.table.now c.requires.nodes c.look-node.result.kids.now c.look-node.ensures.known in
     same_text (sym (ap (numbered_text c.args.number nodes) c.look-node.ensures.node)) (last (appended op kids space c.in_ok-append_op.ensures.ok)
-    c.append_kids.ensures)
+    (same_text same c.append_behind.ensures))

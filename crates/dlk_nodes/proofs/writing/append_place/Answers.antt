@@ -1,17 +1,15 @@
+use Rattle.std.proofs.Common.{◌≡◌, suc, ◌+◌, ap, ◌∙◌, arith}
+use Rattle.std.specs.Prelude.{unwrap_or}
+use Rattle.std.specs.Fmt.{decimal}
+use Rattle.std.specs.List.{position_or_len}
 use Rattle.dlk_print.proofs.Left.{same_text}
-use Rattle.dlk_nodes.proofs.Tables.{place_found, place_past}
+use Rattle.dlk_nodes.specs.Tables.{id_eq}
+use Rattle.dlk_nodes.proofs.Tables.{place_or_len}
 use Rattle.dlk_nodes.proofs.writing.append_place.Goals as goal
 
-pub returns-in-Some : goal.returns-in-Some
-returns-in-Some g c =
-    let store = c.args.store.now in
-    same_text (place_found (g.S.Store.trees store) (g.met.S.Store.one_id c.requires.unique store) c.args.table.now c.args.id c.in-Some.place
-    c.requires.nodes c.requires.id c.in-Some.ensures.place)
-    c.append_decimal.ensures
-
-pub returns-in-None : goal.returns-in-None
-returns-in-None g c =
-    let store = c.args.store.now in
-    same_text (place_past (g.S.Store.trees store) (g.met.S.Store.one_id c.requires.unique store) c.args.table.now c.args.id c.requires.nodes
-    c.requires.id c.in-None.ensures.place)
-    (rw c.len.ensures at c.append_decimal-in-None.ensures)
+pub returns : goal.returns
+returns c =
+    let e : c.unwrap_or-place.result ≡ position_or_len (id_eq c.args.id) c.args.table.now =
+    c.unwrap_or-place.ensures ∙ (λ t. unwrap_or (c.place.ensures.place t) (c.len.ensures t)) ∙ place_or_len c.args.table.now c.args.id in
+    let same : c.unwrap_or-place.result + 1 ≡ suc (position_or_len (id_eq c.args.id) c.args.table.now) = omega (arith, e) in
+    same_text (ap decimal same) c.append_decimal.ensures

@@ -6,4 +6,5 @@ returns-in_ok-program-in-Box-clause-grows g c =
 
 pub returns-in_ok-program-in-Dia-clause-grows : goal.returns-in_ok-program-in-Dia-clause-grows
 returns-in_ok-program-in-Dia-clause-grows g c =
-    g.met.S.Store.grows_trans c.args.store.now c.make_assignment-in-Dia.new.store c.make-in-Dia.new.self c.make_assignment-in-Dia.ensures.grows c.make-in-Dia.ensures.grows
+    g.met.S.Store.grows_trans c.args.store.now c.make_assignment-in-Dia.new.store c.make-in-Dia.new.self c.make_assignment-in-Dia.ensures.grows
+    c.make-in-Dia.ensures.grows

@@ -17,5 +17,6 @@ invariant-loop-kid g l =
     let now = g.S.Store.trees l.store in
     record {
       grows : g.S.Store.grows l.fn.store l.store;
-      made : (op : Op) × Made (Gives (swap l.fn.x l.fn.y)) before now l.fn.id op l.kid-items l.new.items l.kid-index × (or_same op l.op ≡ swap_op l.fn.x l.fn.y op);
+      made : (op : Op) × Made (Gives (swap l.fn.x l.fn.y)) before now l.fn.id op l.kid-items l.new.items l.kid-index ×
+          (or_same op l.op ≡ swap_op l.fn.x l.fn.y op);
     }

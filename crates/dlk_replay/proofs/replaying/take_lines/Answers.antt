@@ -147,23 +147,28 @@ returns-clause-left g c =
 
 pub returns-in_err-take_line-clause-grows : goal.returns-in_err-take_line-clause-grows
 returns-in_err-take_line-clause-grows g c =
-    g.met.S.Store.grows_trans c.args.kernel.now.store c.loop-left.kernel.store c.take_line.new.kernel.store c.loop-left.invariant.grows c.take_line.ensures.grows
+    g.met.S.Store.grows_trans c.args.kernel.now.store c.loop-left.kernel.store c.take_line.new.kernel.store c.loop-left.invariant.grows
+    c.take_line.ensures.grows
 
 pub returns-in_err-show_last-in-Step-clause-grows : goal.returns-in_err-show_last-in-Step-clause-grows
 returns-in_err-show_last-in-Step-clause-grows g c =
-    g.met.S.Store.grows_trans c.args.kernel.now.store c.loop-left.kernel.store c.take_line.new.kernel.store c.loop-left.invariant.grows c.take_line.ensures.grows
+    g.met.S.Store.grows_trans c.args.kernel.now.store c.loop-left.kernel.store c.take_line.new.kernel.store c.loop-left.invariant.grows
+    c.take_line.ensures.grows
 
 pub returns-in_err-keep_step-in-Step-clause-grows : goal.returns-in_err-keep_step-in-Step-clause-grows
 returns-in_err-keep_step-in-Step-clause-grows g c =
-    g.met.S.Store.grows_trans c.args.kernel.now.store c.loop-left.kernel.store c.take_line.new.kernel.store c.loop-left.invariant.grows c.take_line.ensures.grows
+    g.met.S.Store.grows_trans c.args.kernel.now.store c.loop-left.kernel.store c.take_line.new.kernel.store c.loop-left.invariant.grows
+    c.take_line.ensures.grows
 
 pub returns-in_err-end-in-Done-clause-grows : goal.returns-in_err-end-in-Done-clause-grows
 returns-in_err-end-in-Done-clause-grows g c =
-    g.met.S.Store.grows_trans c.args.kernel.now.store c.loop-left.kernel.store c.take_line.new.kernel.store c.loop-left.invariant.grows c.take_line.ensures.grows
+    g.met.S.Store.grows_trans c.args.kernel.now.store c.loop-left.kernel.store c.take_line.new.kernel.store c.loop-left.invariant.grows
+    c.take_line.ensures.grows
 
 pub returns-in-Done-clause-grows : goal.returns-in-Done-clause-grows
 returns-in-Done-clause-grows g c =
-    g.met.S.Store.grows_trans c.args.kernel.now.store c.loop-left.kernel.store c.take_line.new.kernel.store c.loop-left.invariant.grows c.take_line.ensures.grows
+    g.met.S.Store.grows_trans c.args.kernel.now.store c.loop-left.kernel.store c.take_line.new.kernel.store c.loop-left.invariant.grows
+    c.take_line.ensures.grows
 
 pub returns-in-Done-clause-known : goal.returns-in-Done-clause-known
 returns-in-Done-clause-known g c =

@@ -24,8 +24,10 @@ returns-in-Err-clause-fault g c =
 
 pub returns-in_err-take_step-in-Ok-Step-clause-grows : goal.returns-in_err-take_step-in-Ok-Step-clause-grows
 returns-in_err-take_step-in-Ok-Step-clause-grows g c =
-    g.met.S.Store.grows_trans c.args.kernel.now.store c.read_line.new.store.store c.take_step.new.kernel.store c.read_line.ensures.grows.0 c.take_step.ensures.grows
+    g.met.S.Store.grows_trans c.args.kernel.now.store c.read_line.new.store.store c.take_step.new.kernel.store c.read_line.ensures.grows.0
+    c.take_step.ensures.grows
 
 pub returns-in_ok-take_step-in-Ok-Step-clause-grows : goal.returns-in_ok-take_step-in-Ok-Step-clause-grows
 returns-in_ok-take_step-in-Ok-Step-clause-grows g c =
-    g.met.S.Store.grows_trans c.args.kernel.now.store c.read_line.new.store.store c.take_step.new.kernel.store c.read_line.ensures.grows.0 c.take_step.ensures.grows
+    g.met.S.Store.grows_trans c.args.kernel.now.store c.read_line.new.store.store c.take_step.new.kernel.store c.read_line.ensures.grows.0
+    c.take_step.ensures.grows

@@ -328,9 +328,7 @@ branch-run_goals-requires g t c κs within =
     let mid = c.loop-t.kernel in
     let keeps = g.met.S.Store.grows_keeps old.store mid.store c.loop-t.invariant.grows in
     let part = part_at (trees old.store) items i c.t-item.result c.requires.runnable c.loop-t-test.true c.t-item.is in
-    let all = OnOwn (tactics_of (trees old.store) items) c.args.goal 0 in
-    let rest = OnOwn (tactics_of (trees old.store) (drop i items)) c.args.goal c.loop-t.left in
-    let ready = reached_ready trees old c.args.trace.now mid c.loop-t.trace i c.loop-t.left all rest (c.args.goal + c.loop-t.left) 1 c.loop-t.invariant.reached
+    let ready = reached_ready trees old c.args.trace.now mid c.loop-t.trace i c.loop-t.left _ _ (c.args.goal + c.loop-t.left) 1 c.loop-t.invariant.reached
     (omega (arith, c.requires.ready.first)) (omega (arith, c.requires.ready.room, c.loop-t-test.true, c.if-parts-goals.false)) in (
       omega (arith, at_most the_size items i c.t-item.result c.loop-t-test.true, ap the_size c.t-item.is, c.decreases),
       (search rules, (search rules, (ready, runnable_kept (trees old.store) (trees mid.store) keeps c.t-item.result part))),
@@ -348,15 +346,12 @@ branch-returns-in_err-left-clause-fate g t c =
     let part = part_at (trees old.store) items i c.t-item.result c.requires.runnable c.loop-t-test.true c.t-item.is in
     let same = tactic_same (trees old.store) (trees mid.store) keeps c.t-item.result part.known in
     let all = OnOwn (tactics_of (trees old.store) items) c.args.goal 0 in
-    let rest = OnOwn (tactics_of (trees old.store) (drop i items)) c.args.goal c.loop-t.left in
-    let fate = Runs (tactic_at (trees old.store) c.t-item.result) 1 (c.args.goal + c.loop-t.left) in
-    let next : ℕ → Fate = λ new. OnOwn (tactics_of (trees old.store) (drop (i + 1) items)) c.args.goal (c.loop-t.left + new) in
-    let is : rest ≡ Then fate next = own_next (trees old.store) items c.t-item.result i c.args.goal c.loop-t.left here in
+    let is = own_next (trees old.store) items c.t-item.result i c.args.goal c.loop-t.left here in
     let e = err_from_is_err_and c.from_residual.result c.from_residual.ensures.1 in
     let becomes = subst (λ (a : TreeTactic).
     Becomes (Runs a 1 (c.args.goal + c.loop-t.left)) (now trees mid c.loop-t.trace) (now trees c.run_goals.new.kernel c.run_goals.new.trace)
     (Err c.in_err-left.field-0.0)) same c.in_err-left.ensures.fate in
-    let over = reached_err trees old c.args.trace.now mid c.loop-t.trace c.run_goals.new.kernel c.run_goals.new.trace i c.loop-t.left all rest fate next
+    let over = reached_err trees old c.args.trace.now mid c.loop-t.trace c.run_goals.new.kernel c.run_goals.new.trace i c.loop-t.left _ _ _ _
     c.in_err-left.field-0.0 c.loop-t.invariant.reached is becomes in
     rw (e.1, e.2) (branched_err c.args.at (length items) c.args.goals all (now trees old c.args.trace.now)
     (now trees c.run_goals.new.kernel c.run_goals.new.trace) c.in_err-left.field-0.0 (sym c.if-parts-goals.false) over)
@@ -372,18 +367,15 @@ branch-loop-t-preserved g t c =
     let here : drop i items ≡ c.t-item.result ∷ drop (i + 1) items = item_here items i c.t-item.result c.loop-t-test.true c.t-item.is in
     let part = part_at (trees old.store) items i c.t-item.result c.requires.runnable c.loop-t-test.true c.t-item.is in
     let same = tactic_same (trees old.store) (trees mid.store) keeps c.t-item.result part.known in
-    let all = OnOwn (tactics_of (trees old.store) items) c.args.goal 0 in
-    let rest = OnOwn (tactics_of (trees old.store) (drop i items)) c.args.goal c.loop-t.left in
-    let fate = Runs (tactic_at (trees old.store) c.t-item.result) 1 (c.args.goal + c.loop-t.left) in
     let next : ℕ → Fate = λ new. OnOwn (tactics_of (trees old.store) (drop (i + 1) items)) c.args.goal (c.loop-t.left + new) in
-    let is : rest ≡ Then fate next = own_next (trees old.store) items c.t-item.result i c.args.goal c.loop-t.left here in
+    let is = own_next (trees old.store) items c.t-item.result i c.args.goal c.loop-t.left here in
     let new = c.in_ok-left.field-0 in
     let made = subst (λ (a : TreeTactic). Runs a 1 (c.args.goal + c.loop-t.left) (now trees mid c.loop-t.trace)
     (Done (now trees c.run_goals.new.kernel c.run_goals.new.trace) new)) same c.in_ok-left.ensures.fate in
     record {
       grows = g.met.S.Store.grows_trans old.store mid.store c.run_goals.new.kernel.store c.loop-t.invariant.grows c.run_goals.ensures.grows;
       reached = reached_on trees old c.args.trace.now mid c.loop-t.trace c.run_goals.new.kernel c.run_goals.new.trace i c.loop-t.left (i + 1)
-          (c.loop-t.left + new) 1 new all rest fate next
+          (c.loop-t.left + new) 1 new _ _ _ next
           c.loop-t.invariant.reached is made c.in_ok-left.ensures.extends c.in_ok-left.ensures.left c.in_ok-left.ensures.few (omega arith);
     }
 
@@ -394,9 +386,7 @@ branch-returns-clause-fate g t c =
     let items = c.args.parts.now in
     let i = c.loop-t.t-index in
     let mid = c.loop-t.kernel in
-    let all = OnOwn (tactics_of (trees old.store) items) c.args.goal 0 in
-    let rest = OnOwn (tactics_of (trees old.store) (drop i items)) c.args.goal c.loop-t.left in
-    as_many (sym c.if-parts-goals.false) (reached_end trees old c.args.trace.now mid c.loop-t.trace i c.loop-t.left all rest c.loop-t.invariant.reached
+    as_many (sym c.if-parts-goals.false) (reached_end trees old c.args.trace.now mid c.loop-t.trace i c.loop-t.left _ _ c.loop-t.invariant.reached
     (own_none (trees old.store) items i c.args.goal c.loop-t.left c.loop-t-test.false))
 
 pub in_turn-run_goals-requires : goal.in_turn-run_goals-requires
@@ -408,9 +398,7 @@ in_turn-run_goals-requires g t c κs within =
     let mid = c.loop-t.kernel in
     let keeps = g.met.S.Store.grows_keeps old.store mid.store c.loop-t.invariant.grows in
     let part = part_at (trees old.store) items i c.t-item.result c.requires.runnable c.loop-t-test.true c.t-item.is in
-    let all = InTurn (tactics_of (trees old.store) items) 1 c.args.goal in
-    let rest = InTurn (tactics_of (trees old.store) (drop i items)) c.loop-t.goals c.args.goal in
-    let ready = reached_ready trees old c.args.trace.now mid c.loop-t.trace 1 c.loop-t.goals all rest c.args.goal c.loop-t.goals c.loop-t.invariant.reached
+    let ready = reached_ready trees old c.args.trace.now mid c.loop-t.trace 1 c.loop-t.goals _ _ c.args.goal c.loop-t.goals c.loop-t.invariant.reached
     c.requires.ready.first (omega (arith, c.requires.ready.room)) in (
       omega (arith, at_most the_size items i c.t-item.result c.loop-t-test.true, ap the_size c.t-item.is, c.decreases),
       (search rules, (search rules, (ready, runnable_kept (trees old.store) (trees mid.store) keeps c.t-item.result part))),
@@ -427,16 +415,12 @@ in_turn-returns-in_err-goals-clause-fate g t c =
     let here : drop i items ≡ c.t-item.result ∷ drop (i + 1) items = item_here items i c.t-item.result c.loop-t-test.true c.t-item.is in
     let part = part_at (trees old.store) items i c.t-item.result c.requires.runnable c.loop-t-test.true c.t-item.is in
     let same = tactic_same (trees old.store) (trees mid.store) keeps c.t-item.result part.known in
-    let all = InTurn (tactics_of (trees old.store) items) 1 c.args.goal in
-    let rest = InTurn (tactics_of (trees old.store) (drop i items)) c.loop-t.goals c.args.goal in
-    let fate = Runs (tactic_at (trees old.store) c.t-item.result) c.loop-t.goals c.args.goal in
-    let next : ℕ → Fate = λ left. InTurn (tactics_of (trees old.store) (drop (i + 1) items)) left c.args.goal in
-    let is : rest ≡ Then fate next = turn_next (trees old.store) items c.t-item.result i c.loop-t.goals c.args.goal here in
+    let is = turn_next (trees old.store) items c.t-item.result i c.loop-t.goals c.args.goal here in
     let e = err_from_is_err_and c.from_residual.result c.from_residual.ensures.1 in
     let becomes = subst (λ (a : TreeTactic).
     Becomes (Runs a c.loop-t.goals c.args.goal) (now trees mid c.loop-t.trace) (now trees c.run_goals.new.kernel c.run_goals.new.trace)
     (Err c.in_err-goals.field-0.0)) same c.in_err-goals.ensures.fate in
-    rw (e.1, e.2) (reached_err trees old c.args.trace.now mid c.loop-t.trace c.run_goals.new.kernel c.run_goals.new.trace 1 c.loop-t.goals all rest fate next
+    rw (e.1, e.2) (reached_err trees old c.args.trace.now mid c.loop-t.trace c.run_goals.new.kernel c.run_goals.new.trace 1 c.loop-t.goals _ _ _ _
     c.in_err-goals.field-0.0 c.loop-t.invariant.reached is becomes)
 
 pub in_turn-loop-t-preserved : goal.in_turn-loop-t-preserved
@@ -450,18 +434,15 @@ in_turn-loop-t-preserved g t c =
     let here : drop i items ≡ c.t-item.result ∷ drop (i + 1) items = item_here items i c.t-item.result c.loop-t-test.true c.t-item.is in
     let part = part_at (trees old.store) items i c.t-item.result c.requires.runnable c.loop-t-test.true c.t-item.is in
     let same = tactic_same (trees old.store) (trees mid.store) keeps c.t-item.result part.known in
-    let all = InTurn (tactics_of (trees old.store) items) 1 c.args.goal in
-    let rest = InTurn (tactics_of (trees old.store) (drop i items)) c.loop-t.goals c.args.goal in
-    let fate = Runs (tactic_at (trees old.store) c.t-item.result) c.loop-t.goals c.args.goal in
     let next : ℕ → Fate = λ left. InTurn (tactics_of (trees old.store) (drop (i + 1) items)) left c.args.goal in
-    let is : rest ≡ Then fate next = turn_next (trees old.store) items c.t-item.result i c.loop-t.goals c.args.goal here in
+    let is = turn_next (trees old.store) items c.t-item.result i c.loop-t.goals c.args.goal here in
     let new = c.in_ok-goals.goals in
     let made = subst (λ (a : TreeTactic). Runs a c.loop-t.goals c.args.goal (now trees mid c.loop-t.trace)
     (Done (now trees c.run_goals.new.kernel c.run_goals.new.trace) new)) same c.in_ok-goals.ensures.fate in
     record {
       grows = g.met.S.Store.grows_trans old.store mid.store c.run_goals.new.kernel.store c.loop-t.invariant.grows c.run_goals.ensures.grows;
       reached = reached_on trees old c.args.trace.now mid c.loop-t.trace c.run_goals.new.kernel c.run_goals.new.trace 1 c.loop-t.goals 1 new c.loop-t.goals new
-          all rest fate next
+          _ _ _ next
           c.loop-t.invariant.reached is made c.in_ok-goals.ensures.extends c.in_ok-goals.ensures.left c.in_ok-goals.ensures.few (omega arith);
     }
 
@@ -472,9 +453,7 @@ in_turn-returns-clause-fate g t c =
     let items = c.args.parts.now in
     let i = c.loop-t.t-index in
     let mid = c.loop-t.kernel in
-    let all = InTurn (tactics_of (trees old.store) items) 1 c.args.goal in
-    let rest = InTurn (tactics_of (trees old.store) (drop i items)) c.loop-t.goals c.args.goal in
-    reached_end trees old c.args.trace.now mid c.loop-t.trace 1 c.loop-t.goals all rest c.loop-t.invariant.reached
+    reached_end trees old c.args.trace.now mid c.loop-t.trace 1 c.loop-t.goals _ _ c.loop-t.invariant.reached
     (part_none (trees old.store) items i c.loop-t.goals c.args.goal c.loop-t-test.false)
 
 pub run_goals-branch-alloc-requires : goal.run_goals-branch-alloc-requires
@@ -504,11 +483,8 @@ run_goals-run_one-requires g t c κs within =
     let old = c.args.kernel.now in
     let i = c.loop.counter in
     let mid = c.loop.kernel in
-    let run = on_one (tactic_at (trees old.store) c.args.t.now) in
-    let all = Each run c.args.goals c.args.goal 0 in
-    let rest = Each run (c.args.goals - i) c.args.goal c.loop.left in
     let keeps = g.met.S.Store.grows_keeps old.store mid.store c.loop.invariant.grows in
-    let ready = reached_ready trees old c.args.trace.now mid c.loop.trace i c.loop.left all rest (c.args.goal + c.loop.left) 1 c.loop.invariant.reached
+    let ready = reached_ready trees old c.args.trace.now mid c.loop.trace i c.loop.left _ _ (c.args.goal + c.loop.left) 1 c.loop.invariant.reached
     (omega (arith, c.requires.ready.first)) (omega (arith, c.requires.ready.room, c.loop-test.true)) in
     (search rules, (search rules, (search rules, (ready, runnable_kept (trees old.store) (trees mid.store) keeps c.args.t.now c.requires.runnable))))
 
@@ -519,20 +495,15 @@ run_goals-returns-in_err-left g t c =
     let i = c.loop.counter in
     let mid = c.loop.kernel in
     let run = on_one (tactic_at (trees old.store) c.args.t.now) in
-    let all = Each run c.args.goals c.args.goal 0 in
-    let rest = Each run (c.args.goals - i) c.args.goal c.loop.left in
     let keeps = g.met.S.Store.grows_keeps old.store mid.store c.loop.invariant.grows in
     let same = tactic_same (trees old.store) (trees mid.store) keeps c.args.t.now c.requires.runnable.known in
-    let fate = run (c.args.goal + c.loop.left) in
-    let next : ℕ → Fate = λ new. Each run (c.args.goals - (i + 1)) c.args.goal (c.loop.left + new) in
-    let is : rest ≡ Then fate next = each_next run c.args.goals c.args.goal i c.loop.left c.loop-test.true in
-    let one_each : Runs (tactic_at (trees old.store) c.args.t.now) c.args.goals c.args.goal ≡ all =
-    runs_each (trees old.store) c.args.t.now c.args.goals c.args.goal c.in_default.not-Branch in
+    let is = each_next run c.args.goals c.args.goal i c.loop.left c.loop-test.true in
+    let one_each = runs_each (trees old.store) c.args.t.now c.args.goals c.args.goal c.in_default.not-Branch in
     let e = err_from_is_err_and c.from_residual.result c.from_residual.ensures.1 in
     let becomes = subst (λ (a : TreeTactic).
     Becomes (on_one a (c.args.goal + c.loop.left)) (now trees mid c.loop.trace) (now trees c.run_one.new.kernel c.run_one.new.trace)
     (Err c.in_err-left.field-0.0)) same c.in_err-left.ensures.fate in
-    let over = reached_err trees old c.args.trace.now mid c.loop.trace c.run_one.new.kernel c.run_one.new.trace i c.loop.left all rest fate next
+    let over = reached_err trees old c.args.trace.now mid c.loop.trace c.run_one.new.kernel c.run_one.new.trace i c.loop.left _ _ _ _
     c.in_err-left.field-0.0 c.loop.invariant.reached is becomes in
     let extends = extends_err trees old c.args.trace.now mid c.loop.trace c.run_one.new.kernel c.run_one.new.trace c.in_err-left.field-0.0
     c.loop.invariant.reached.extends c.in_err-left.ensures.extends in
@@ -553,20 +524,17 @@ run_goals-loop-preserved g t c =
     let i = c.loop.counter in
     let mid = c.loop.kernel in
     let run = on_one (tactic_at (trees old.store) c.args.t.now) in
-    let all = Each run c.args.goals c.args.goal 0 in
-    let rest = Each run (c.args.goals - i) c.args.goal c.loop.left in
     let keeps = g.met.S.Store.grows_keeps old.store mid.store c.loop.invariant.grows in
     let same = tactic_same (trees old.store) (trees mid.store) keeps c.args.t.now c.requires.runnable.known in
-    let fate = run (c.args.goal + c.loop.left) in
     let next : ℕ → Fate = λ new. Each run (c.args.goals - (i + 1)) c.args.goal (c.loop.left + new) in
-    let is : rest ≡ Then fate next = each_next run c.args.goals c.args.goal i c.loop.left c.loop-test.true in
+    let is = each_next run c.args.goals c.args.goal i c.loop.left c.loop-test.true in
     let new = c.in_ok-left.field-0 in
     let made = subst (λ (a : TreeTactic). on_one a (c.args.goal + c.loop.left) (now trees mid c.loop.trace)
     (Done (now trees c.run_one.new.kernel c.run_one.new.trace) new)) same c.in_ok-left.ensures.fate in
     record {
       grows = g.met.S.Store.grows_trans old.store mid.store c.run_one.new.kernel.store c.loop.invariant.grows c.run_one.ensures.grows;
       reached = reached_on trees old c.args.trace.now mid c.loop.trace c.run_one.new.kernel c.run_one.new.trace i c.loop.left (i + 1) (c.loop.left + new) 1 new
-          all rest fate next
+          _ _ _ next
           c.loop.invariant.reached is made c.in_ok-left.ensures.extends c.in_ok-left.ensures.left c.in_ok-left.ensures.few (omega arith);
     }
 
@@ -577,11 +545,8 @@ run_goals-returns g t c =
     let i = c.loop.counter in
     let mid = c.loop.kernel in
     let run = on_one (tactic_at (trees old.store) c.args.t.now) in
-    let all = Each run c.args.goals c.args.goal 0 in
-    let rest = Each run (c.args.goals - i) c.args.goal c.loop.left in
-    let one_each : Runs (tactic_at (trees old.store) c.args.t.now) c.args.goals c.args.goal ≡ all =
-    runs_each (trees old.store) c.args.t.now c.args.goals c.args.goal c.in_default.not-Branch in
-    let made = reached_end trees old c.args.trace.now mid c.loop.trace i c.loop.left all rest c.loop.invariant.reached
+    let one_each = runs_each (trees old.store) c.args.t.now c.args.goals c.args.goal c.in_default.not-Branch in
+    let made = reached_end trees old c.args.trace.now mid c.loop.trace i c.loop.left _ _ c.loop.invariant.reached
     (each_none run c.args.goals c.args.goal i c.loop.left c.loop-test.false) in
     record {
       fate = subst (λ (f : Fate). f (now trees old c.args.trace.now) (Done (now trees mid c.loop.trace) c.loop.left)) (sym one_each) made;

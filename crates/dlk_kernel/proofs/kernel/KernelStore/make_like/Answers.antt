@@ -12,5 +12,6 @@ pub returns-clause-grows : goal.returns-clause-grows
 returns-clause-grows g c =
     rw (← c.self.view_is) (
       c.make_like.ensures.grows,
-      same_rows g.S.Store.trees _ _ (g.met.S.Store.grows_keeps c.self.inside.store c.make_like.new.self c.make_like.ensures.grows) c.self.invariant.are_sound refl,
+      same_rows g.S.Store.trees _ _ (g.met.S.Store.grows_keeps c.self.inside.store c.make_like.new.self c.make_like.ensures.grows)
+          c.self.invariant.are_sound refl,
     )

@@ -1,6 +1,0 @@
-use Rattle.std.proofs.Common.{◌≡◌, ℕ, ◌<◌, get_or, false}
-use Rattle.dlk_replay.specs.Files.{is_line_feed}
-use Rattle.dlk_jobs_session.proofs.splitting.line_end.Given as goal
-
-abbrev pub invariant-loop-i : goal.invariant-loop-i
-invariant-loop-i l = (k : ℕ) → k < l.i → is_line_feed (get_or l.left k 0) ≡ false
