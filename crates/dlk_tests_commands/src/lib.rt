@@ -1,4 +1,4 @@
-//! Tests of `convert`, `link`, `trim` and `session`.
+//! Tests of what each command answers.
 #![tactic(auto)]
 
 #[cfg(test)]

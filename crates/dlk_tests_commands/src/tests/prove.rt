@@ -5,11 +5,11 @@ mod generating;
 mod library;
 mod proving;
 
-use dlk_replies::NoReply;
-use dlk_tests_answers::{
+use super::answers::{
     INCREMENT_BY_NODES, INCREMENT_MODEL, INCREMENT_REPORT, TERM_BY_NODES, joined, padded, repeated,
     replied,
 };
+use dlk_replies::NoReply;
 use std::alloc::Global;
 use std::process::Abort;
 use std::test::Fail;

@@ -8,11 +8,11 @@ mod orders;
 mod terms;
 mod versions;
 
-use dlk_replies::{Form, LastWord, NoReply, Role};
-use dlk_tests_answers::{
+use super::answers::{
     INCREMENT_BY_NODES, INCREMENT_MODEL, INCREMENT_REPORT, INCREMENT_TERM, REPORT, TERM,
     TERM_BY_NODES, checked, joined, padded, proof, repeated, replied, words_of,
 };
+use dlk_replies::{Form, LastWord, NoReply, Role};
 use std::alloc::{AllocError, Global};
 use std::process::Abort;
 use std::test::Fail;

@@ -1,4 +1,4 @@
-use Rattle.dlk_tests_subst.proofs.tests.substituting.substitutes_as_plainly.Given as goal
+use Rattle.dlk_tests_commands.proofs.tests.subst.substituting.substitutes_as_plainly.Given as goal
 
 abbrev pub ghosts-plainly : goal.ghosts-plainly
 ghosts-plainly g a = record { name = a.blank.name; parts = a.blank.parts }

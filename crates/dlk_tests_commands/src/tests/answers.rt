@@ -1,5 +1,4 @@
-//! What the tests of the program's answers share: words and texts, and what is answered to them.
-#![tactic(auto)]
+// What the tests share: words and texts, and what is answered to them.
 
 ghost use Rattle.std.specs.Prelude.{◌≡◌, ◌<◌};
 

@@ -3,8 +3,8 @@ mod examples;
 mod listing;
 mod printing;
 
+use super::answers::{answered, joined, padded, repeated};
 use dlk_replies::NoReply;
-use dlk_tests_answers::{answered, joined, padded, repeated};
 use std::alloc::{AllocError, Global};
 use std::process::Abort;
 use std::test::Fail;

@@ -1,5 +1,0 @@
-//! Tests of `prove` and `gen`.
-#![tactic(auto)]
-
-#[cfg(test)]
-mod tests;

@@ -1,5 +1,0 @@
-//! Tests of `subst`.
-#![tactic(auto)]
-
-#[cfg(test)]
-mod tests;

@@ -1,5 +1,0 @@
-//! Tests of `print` and `vars`.
-#![tactic(auto)]
-
-#[cfg(test)]
-mod tests;
