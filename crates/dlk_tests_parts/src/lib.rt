@@ -1,0 +1,5 @@
+//! Tests of the crates below the commands, each by its own calls.
+#![tactic(auto)]
+
+#[cfg(test)]
+mod tests;

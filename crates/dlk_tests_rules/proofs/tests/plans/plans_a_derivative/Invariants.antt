@@ -1,4 +1,0 @@
-use Rattle.dlk_tests_rules.proofs.tests.plans.plans_a_derivative.Given as goal
-
-abbrev pub ghosts-uses : goal.ghosts-uses
-ghosts-uses g a = record { name = a.blank.name; parts = a.blank.parts }

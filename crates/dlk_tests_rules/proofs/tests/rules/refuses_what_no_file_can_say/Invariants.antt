@@ -1,7 +1,0 @@
-use Rattle.dlk_tests_rules.proofs.tests.rules.refuses_what_no_file_can_say.Given as goal
-
-abbrev pub ghosts-cut_refused : goal.ghosts-cut_refused
-ghosts-cut_refused g a = record { name = a.blank.name; parts = a.blank.parts }
-
-abbrev pub ghosts-start_refused : goal.ghosts-start_refused
-ghosts-start_refused g a = record { name = a.blank.name; parts = a.blank.parts }

@@ -1,4 +1,0 @@
-use Rattle.dlk_tests_stores.proofs.tests.sharing.asked.Given as goal
-
-abbrev pub ghosts-looked : goal.ghosts-looked
-ghosts-looked g a = record { name = a.blank.name; parts = a.blank.parts }

@@ -1,4 +1,0 @@
-use Rattle.dlk_tests_terms.proofs.tests.files.applied.Given as goal
-
-abbrev pub ghosts-uncounted_applied : goal.ghosts-uncounted_applied
-ghosts-uncounted_applied a = record { name = a.blank.name; parts = a.blank.parts }

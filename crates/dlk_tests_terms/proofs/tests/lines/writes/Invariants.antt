@@ -1,4 +1,0 @@
-use Rattle.dlk_tests_terms.proofs.tests.lines.writes.Given as goal
-
-abbrev pub ghosts-written : goal.ghosts-written
-ghosts-written a = record { name = a.blank.name; parts = a.blank.parts }
