@@ -16,7 +16,7 @@ Of `models` each is printed, and what was printed must be printed the same again
 
 Of `gallery` and `recipes` what `prove` prints must be the folder's `report`, byte for byte, and so must what `check` prints of the term. Where a
 strategy `by_hand` stands there, too, which writes out what `derive` does, all this must hold of it as well. Some models of the gallery stand in the
-tests of `dlk_tests_prove`; each that does must stand there as it does here. With --leaves a solver is asked for the leaves of the gallery, and each
+tests of `dlk_tests_commands`; each that does must stand there as it does here. With --leaves a solver is asked for the leaves of the gallery, and each
 must be valid. `dlkt verify` must say of each recipe that it is verified. With --write each report is written anew.
 
 Of `guarded` each derivation of `false` must be unguarded, at the line and for the reason that the table below has, and that docs/SOUNDNESS.md says.
@@ -42,8 +42,8 @@ EXAMPLES = ROOT / "examples"
 GALLERY = EXAMPLES / "gallery"
 RECIPES = EXAMPLES / "recipes"
 PAGE = ROOT / "docs" / "SOUNDNESS.md"
-GALLERY_TESTS = ROOT / "crates" / "dlk_tests_prove" / "src" / "tests" / "gallery.rt"
-MODEL_TESTS = ROOT / "crates" / "dlk_tests_text" / "src" / "tests" / "examples.rt"
+GALLERY_TESTS = ROOT / "crates" / "dlk_tests_commands" / "src" / "tests" / "prove" / "gallery.rt"
+MODEL_TESTS = ROOT / "crates" / "dlk_tests_commands" / "src" / "tests" / "text" / "examples.rt"
 PROGRAM = shutil.which(os.environ.get("DLK", ROOT / "dlk")) or ""
 SOLVERS = ("z3", "cvc5")
 UNSOUND = {
