@@ -10,13 +10,15 @@ use dlk_desk::MemoryDesk;
 use dlk_replies::{Reply, Status};
 use std::alloc::{AllocError, Global};
 use std::marker::Brand;
+use std::process::Abort;
 use std::sync::ledger::Blank;
 use std::test::Fail;
 
-fn words_of(alloc: Global, texts: &[&str]) -> Result<Vec<String>, AllocError> {
+/// The words of a command line.
+fn words_of(alloc: Global, line: &str) -> Result<Vec<String>, AllocError> {
     let mut words = Vec::new(alloc);
-    for text in texts {
-        words.push(String::from_str(alloc, text)?)?;
+    for word in line.split_ascii_whitespace() {
+        words.push(String::from_str(alloc, word)?)?;
     }
     Ok(words)
 }
@@ -50,163 +52,176 @@ fn desk_of(
     desk_with(alloc, &[("model", model), ("term", term)], chunk, fails)
 }
 
-/// The status of a run of the program with these words.
-fn status_of(alloc: Global, words: &[&str], desk: &mut MemoryDesk) -> Result<u8, AllocError> {
-    let words = words_of(alloc, words)?;
+/// The status of a run of the program with the words of this line.
+fn status_of(alloc: Global, line: &str, desk: &mut MemoryDesk) -> Result<u8, AllocError> {
+    let words = words_of(alloc, line)?;
     Ok(start::<MemoryDesk, Brand>(alloc, &words, desk, Blank::new(1)))
 }
+
+/// A run with the words of this line ends with this status and has printed this.
+fn answers(
+    rt: &impl Abort,
+    alloc: Global,
+    desk: &mut MemoryDesk,
+    line: &str,
+    status: u8,
+    printed: &str,
+) -> Result<(), AllocError> {
+    let found = status_of(alloc, line, desk)?;
+    assert_eq!(rt; found, status, "{line}");
+    assert_eq!(rt; desk.printed(), printed.as_bytes(), "{line}");
+    Ok(())
+}
+
+/// A term that is open.
+const OPEN: &[u8] = b"1 start ==> x>=0\ndone\n";
 
 /// Each command prints what it answers.
 #[test]
 fn runs_each_command(rt: HostRuntime) -> Result<(), Fail> {
     let alloc = rt.alloc();
-    for (words, status, printed) in [
+    for (line, status, printed) in &[
         (
-            &["check", "model", "term"].as_slice(),
+            "check model term",
             1,
             "open\nconclusion ==> x>=0\ngoals 1\ngoal 1 ==> x>=0\nleaves 0\nlines 1\n",
         ),
         (
-            &["report", "model", "term"].as_slice(),
+            "report model term",
             1,
             "{\"conclusion\":\"==> x>=0\",\"goals\":[\"==> x>=0\"],\"leaves\":[],\"lines\":1,\"status\":\"open\"}\n",
         ),
-        (&["print", "model"].as_slice(), 0, "x>=0\n"),
+        ("print model", 0, "x>=0\n"),
         (
-            &["vars", "model"].as_slice(),
+            "vars model",
             0,
             "free: x\nbound: none\nmust: none\nsymbols: none\n",
         ),
+        ("subst model model", 2, "refused: subst at 1: syntax\n"),
+        ("smt model term", 1, ""),
         (
-            &["subst", "model", "model"].as_slice(),
-            2,
-            "refused: subst at 1: syntax\n",
-        ),
-        (&["smt", "model", "term"].as_slice(), 1, ""),
-        (
-            &["prove", "model", "term", "out"].as_slice(),
+            "prove model term out",
             2,
             "refused: strategy at 0: syntax\n",
         ),
+        ("gen 1", 0, "generated 1\nlines 15\nleaves 1\nclosed\n"),
         (
-            &["gen", "1"].as_slice(),
-            0,
-            "generated 1\nlines 15\nleaves 1\nclosed\n",
-        ),
-        (
-            &["convert", "term", "out"].as_slice(),
+            "convert term out",
             1,
             "open\nconclusion ==> x>=0\ngoals 1\ngoal 1 ==> x>=0\nleaves 0\nlines 1\n",
         ),
         (
-            &["link", "model", "term", "term", "out"].as_slice(),
+            "link model term term out",
             1,
             "open\nconclusion ==> x>=0\ngoals 1\ngoal 1 ==> x>=0\nleaves 0\nlines 3\n",
         ),
         (
-            &["trim", "model", "term", "out"].as_slice(),
+            "trim model term out",
             1,
             "open\nconclusion ==> x>=0\ngoals 1\ngoal 1 ==> x>=0\nleaves 0\nlines 1\n",
         ),
-        (
-            &["session", "model", "term", "out"].as_slice(),
-            2,
-            "refused: script line 1\n",
-        ),
+        ("session model term out", 2, "refused: script line 1\n"),
     ] {
-        let mut desk = desk_of(alloc, b"x>=0", b"1 start ==> x>=0\ndone\n", 7, &[])?;
-        assert_eq!(rt; status_of(alloc, words, &mut desk)?, status);
-        assert_eq!(rt; desk.printed(), printed.as_bytes());
+        let mut desk = desk_of(alloc, b"x>=0", OPEN, 7, &[])?;
+        answers(&rt, alloc, &mut desk, line, *status, printed)?;
     }
     Ok(())
 }
 
-/// A file that is written may be an input, which is read whole before. What is refused leaves it as it was.
+/// Two lines that start, of which one is needed.
+const TWICE: &[u8] = b"1 start ==> x>=0\n2 start ==> x>=0\ndone\n";
+
+/// A command that writes over one of its inputs prints a report of so many lines, and what it wrote is checked with the same report.
+fn overwrites(
+    rt: &impl Abort,
+    alloc: Global,
+    line: &str,
+    name: &str,
+    lines: u32,
+) -> Result<(), Fail> {
+    let report = format!(in alloc;
+        "open\nconclusion ==> x>=0\ngoals 1\ngoal 1 ==> x>=0\nleaves 0\nlines {lines}\n"
+    )?;
+    let mut desk = desk_of(alloc, b"x>=0", TWICE, 7, &[])?;
+    answers(rt, alloc, &mut desk, line, 1, report.as_str())?;
+    let written = desk.file(name).unwrap_or(&[]);
+    let mut again = desk_of(alloc, b"x>=0", written, 7, &[])?;
+    answers(
+        rt,
+        alloc,
+        &mut again,
+        "check model term",
+        1,
+        report.as_str(),
+    )?;
+    Ok(())
+}
+
+/// A file that is written may be an input, which is read whole before.
 #[test]
 fn overwrites_inputs(rt: HostRuntime) -> Result<(), Fail> {
     let alloc = rt.alloc();
-    let term = b"1 start ==> x>=0\n2 start ==> x>=0\ndone\n".as_slice();
-    for (words, name, lines) in [
-        (&["convert", "term", "term"].as_slice(), "term", 2),
-        (
-            &["link", "model", "term", "term", "term"].as_slice(),
-            "term",
-            5,
-        ),
-        (
-            &["link", "model", "term", "term", "model"].as_slice(),
-            "model",
-            5,
-        ),
-        (&["trim", "model", "term", "term"].as_slice(), "term", 1),
+    for (line, name, lines) in &[
+        ("convert term term", "term", 2),
+        ("link model term term term", "term", 5),
+        ("link model term term model", "model", 5),
+        ("trim model term term", "term", 1),
     ] {
-        let mut desk = desk_of(alloc, b"x>=0", term, 7, &[])?;
-        assert_eq!(rt; status_of(alloc, words, &mut desk)?, 1);
-        let report = format!(in alloc;
-            "open\nconclusion ==> x>=0\ngoals 1\ngoal 1 ==> x>=0\nleaves 0\nlines {lines}\n"
-        )?;
-        assert_eq!(rt; desk.printed(), report.as_bytes());
-        let mut out = Vec::new(alloc);
-        out.extend_from_slice(desk.file(name).unwrap_or(&[]))?;
-        let mut desk = desk_of(alloc, b"x>=0", &out, 7, &[])?;
-        assert_eq!(rt;
-            status_of(alloc, &["check", "model", "term"], &mut desk)?,
-            1
-        );
-        assert_eq!(rt; desk.printed(), report.as_bytes());
-    }
-    for words in [
-        &["convert", "model", "model"].as_slice(),
-        &["link", "model", "term", "model", "model"].as_slice(),
-        &["trim", "model", "model", "model"].as_slice(),
-        &["session", "model", "term", "term"].as_slice(),
-    ] {
-        let mut desk = desk_of(alloc, b"x>=0", term, 7, &[])?;
-        assert_eq!(rt; status_of(alloc, words, &mut desk)?, 2);
-        assert_eq!(rt; desk.file("model"), Some(b"x>=0".as_slice()));
-        assert_eq!(rt; desk.file("term"), Some(term));
+        overwrites(&rt, alloc, line, name, *lines)?;
     }
     Ok(())
 }
 
+/// What is refused leaves a file that would be written as it was.
 #[test]
-fn tells_faults_of_the_outside(rt: HostRuntime) -> Result<(), Fail> {
+fn leaves_files_where_it_refuses(rt: HostRuntime) -> Result<(), Fail> {
     let alloc = rt.alloc();
-    for (words, status, printed) in [
-        (&[].as_slice(), 3, "refused: words\n"),
-        (&["check"].as_slice(), 3, "refused: words\n"),
-        (&["check", "model"].as_slice(), 3, "refused: words\n"),
-        (
-            &["check", "model", "term", "more"].as_slice(),
-            3,
-            "refused: words\n",
-        ),
-        (&["--help"].as_slice(), 3, "refused: words\n"),
-        (&["gen", "0"].as_slice(), 3, "refused: words\n"),
-        (&["print"].as_slice(), 3, "refused: words\n"),
-        (
-            &["print", "model", "term"].as_slice(),
-            3,
-            "refused: words\n",
-        ),
-        (&["print", "nothing"].as_slice(), 4, ""),
-        (&["vars"].as_slice(), 3, "refused: words\n"),
-        (&["vars", "model", "term"].as_slice(), 3, "refused: words\n"),
-        (&["vars", "nothing"].as_slice(), 4, ""),
-        (
-            &["prove", "model", "term"].as_slice(),
-            3,
-            "refused: words\n",
-        ),
-        (&["check", "nothing", "term"].as_slice(), 4, ""),
-        (&["check", "model", "nothing"].as_slice(), 4, ""),
+    for line in &[
+        "convert model model",
+        "link model term model model",
+        "trim model model model",
+        "session model term term",
     ] {
-        let mut desk = desk_of(alloc, b"x>=0", b"1 start ==> x>=0\ndone\n", 100, &[])?;
-        assert_eq!(rt; status_of(alloc, words, &mut desk)?, status);
-        assert_eq!(rt; desk.printed(), printed.as_bytes());
+        let mut desk = desk_of(alloc, b"x>=0", TWICE, 7, &[])?;
+        assert_eq!(rt; status_of(alloc, line, &mut desk)?, 2);
+        assert_eq!(rt; desk.file("model"), Some(b"x>=0".as_slice()));
+        assert_eq!(rt; desk.file("term"), Some(TWICE));
     }
-    // The model is read in two pieces and at its end, the term in four pieces and at its end, and the report is printed in pieces.
-    for (call, status, printed) in [
+    Ok(())
+}
+
+/// Words that are no command's, and files that aren't there.
+#[test]
+fn refuses_words_and_files(rt: HostRuntime) -> Result<(), Fail> {
+    let alloc = rt.alloc();
+    for (line, status, printed) in &[
+        ("", 3, "refused: words\n"),
+        ("check", 3, "refused: words\n"),
+        ("check model", 3, "refused: words\n"),
+        ("check model term more", 3, "refused: words\n"),
+        ("--help", 3, "refused: words\n"),
+        ("gen 0", 3, "refused: words\n"),
+        ("print", 3, "refused: words\n"),
+        ("print model term", 3, "refused: words\n"),
+        ("print nothing", 4, ""),
+        ("vars", 3, "refused: words\n"),
+        ("vars model term", 3, "refused: words\n"),
+        ("vars nothing", 4, ""),
+        ("prove model term", 3, "refused: words\n"),
+        ("check nothing term", 4, ""),
+        ("check model nothing", 4, ""),
+    ] {
+        let mut desk = desk_of(alloc, b"x>=0", OPEN, 100, &[])?;
+        answers(&rt, alloc, &mut desk, line, *status, printed)?;
+    }
+    Ok(())
+}
+
+/// The model is read in two pieces and at its end, the term in four pieces and at its end, and the report is printed in pieces.
+#[test]
+fn tells_the_call_that_fails(rt: HostRuntime) -> Result<(), Fail> {
+    let alloc = rt.alloc();
+    for (call, status, printed) in &[
         (1, 4, ""),
         (2, 4, ""),
         (3, 4, ""),
@@ -215,15 +230,20 @@ fn tells_faults_of_the_outside(rt: HostRuntime) -> Result<(), Fail> {
         (10, 5, ""),
         (11, 5, "open\nco"),
     ] {
-        let mut desk = desk_of(alloc, b"x>=0", b"1 start ==> x>=0\ndone\n", 7, &[call])?;
-        assert_eq!(rt;
-            status_of(alloc, &["check", "model", "term"], &mut desk)?,
-            status,
-            "call {call}"
-        );
-        assert_eq!(rt; desk.printed(), printed.as_bytes(), "call {call}");
+        let mut desk = desk_of(alloc, b"x>=0", OPEN, 7, &[*call])?;
+        answers(&rt, alloc, &mut desk, "check model term", *status, printed)?;
     }
     Ok(())
+}
+
+/// How often a count of faults rose: those of reading, of writing, of files and of printing.
+fn counts(desk: &MemoryDesk) -> [u64; 4] {
+    [
+        desk.read_faults(),
+        desk.write_faults(),
+        desk.file_faults(),
+        desk.print_faults(),
+    ]
 }
 
 /// `convert` while one call fails: the status, and by how much each count rose. A fault of writing a file and one of printing each raise the count
@@ -232,28 +252,23 @@ fn tells_faults_of_the_outside(rt: HostRuntime) -> Result<(), Fail> {
 #[test]
 fn counts_the_call_that_fails(rt: HostRuntime) -> Result<(), Fail> {
     let alloc = rt.alloc();
-    for (name, call, status, reads, writes, files, prints) in [
-        ("start_read", 1, 4, 1, 0, 0, 0),
-        ("read", 2, 4, 1, 0, 0, 0),
-        ("read at the end", 3, 4, 1, 0, 0, 0),
-        ("start_write", 4, 5, 0, 1, 1, 0),
-        ("append", 5, 5, 0, 1, 1, 0),
-        ("print", 6, 5, 0, 1, 0, 1),
-        ("none", 7, 1, 0, 0, 0, 0),
+    for (name, call, status, faults) in &[
+        ("start_read", 1, 4, [1, 0, 0, 0]),
+        ("read", 2, 4, [1, 0, 0, 0]),
+        ("read at the end", 3, 4, [1, 0, 0, 0]),
+        ("start_write", 4, 5, [0, 1, 1, 0]),
+        ("append", 5, 5, [0, 1, 1, 0]),
+        ("print", 6, 5, [0, 1, 0, 1]),
+        ("none", 7, 1, [0, 0, 0, 0]),
     ] {
-        let term = b"1 start ==> x>=0\ndone\n".as_slice();
-        let mut desk = desk_of(alloc, b"x>=0", term, 1_000, &[call])?;
-        let found = status_of(alloc, &["convert", "term", "out"], &mut desk)?;
-        assert_eq!(rt; found, status, "{name}");
-        assert_eq!(rt; desk.read_faults(), reads, "{name}");
-        assert_eq!(rt; desk.write_faults(), writes, "{name}");
-        assert_eq!(rt; desk.file_faults(), files, "{name}");
-        assert_eq!(rt; desk.print_faults(), prints, "{name}");
+        let mut desk = desk_of(alloc, b"x>=0", OPEN, 1_000, &[*call])?;
+        let found = status_of(alloc, "convert term out", &mut desk)?;
+        assert_eq!(rt; found, *status, "{name}");
+        assert_eq!(rt; counts(&desk), *faults, "{name}");
     }
     let mut desk = desk_of(alloc, b"x>=0", b"", 1_000, &[])?;
-    assert_eq!(rt; status_of(alloc, &["print", "nothing"], &mut desk)?, 4);
-    assert_eq!(rt; desk.read_faults(), 1);
-    assert_eq!(rt; desk.write_faults(), 0);
+    assert_eq!(rt; status_of(alloc, "print nothing", &mut desk)?, 4);
+    assert_eq!(rt; counts(&desk), [1, 0, 0, 0]);
     Ok(())
 }
 
@@ -313,11 +328,14 @@ fn refuses_a_result(rt: HostRuntime) -> Result<(), Fail> {
         pairs.extend_from_slice(b"+._0")?;
     }
     let mut desk = desk_of(alloc, &file, &pairs, 100, &[])?;
-    assert_eq!(rt;
-        status_of(alloc, &["subst", "model", "term"], &mut desk)?,
-        2
-    );
-    assert_eq!(rt; desk.printed(), b"refused: result-too-big\n".as_slice());
+    answers(
+        &rt,
+        alloc,
+        &mut desk,
+        "subst model term",
+        2,
+        "refused: result-too-big\n",
+    )?;
     Ok(())
 }
 
@@ -334,12 +352,7 @@ fn reads_one_byte_past_a_limit(rt: HostRuntime) -> Result<(), Fail> {
         (259, 5, ""),
     ] {
         let mut desk = desk_of(alloc, &file, b"", 65_536, &[call])?;
-        assert_eq!(rt;
-            status_of(alloc, &["print", "model"], &mut desk)?,
-            status,
-            "call {call}"
-        );
-        assert_eq!(rt; desk.printed(), printed.as_bytes(), "call {call}");
+        answers(&rt, alloc, &mut desk, "print model", status, printed)?;
     }
     Ok(())
 }
@@ -379,8 +392,7 @@ fn proves_while_each_call_fails(rt: HostRuntime) -> Result<(), Fail> {
             ("term", b"old".as_slice()),
         ];
         let mut desk = desk_with(alloc, &files, 7, &[call as u64])?;
-        let words = ["prove", "model", "strategy", "term"];
-        let status = status_of(alloc, &words, &mut desk)?;
+        let status = status_of(alloc, "prove model strategy term", &mut desk)?;
         let due = if call < 13 {
             4
         } else if call <= last {
@@ -404,38 +416,56 @@ fn proves_while_each_call_fails(rt: HostRuntime) -> Result<(), Fail> {
     Ok(())
 }
 
-/// Each command that writes a file, with pieces of seven bytes, while each call in turn fails. Where that call prints, the status is 5, and the
-/// file is that of the run in which none fails. In each run all is done before the hundredth call.
-#[test]
-fn keeps_the_file_where_printing_fails(rt: HostRuntime) -> Result<(), Fail> {
-    let alloc = rt.alloc();
+/// A desk with a file of each kind, and one that is written over.
+fn full_desk(alloc: Global, fails: &[u64]) -> Result<MemoryDesk, AllocError> {
     let files = [
         ("model", b"x>=0".as_slice()),
-        ("term", b"1 start ==> x>=0\ndone\n".as_slice()),
+        ("term", OPEN),
         ("strategy", b"leaf".as_slice()),
         ("script", b"save\n".as_slice()),
         ("out", b"old".as_slice()),
     ];
-    for (words, status) in [
-        (&["prove", "model", "strategy", "out"].as_slice(), 0),
-        (&["convert", "term", "out"].as_slice(), 1),
-        (&["link", "model", "term", "term", "out"].as_slice(), 1),
-        (&["trim", "model", "term", "out"].as_slice(), 1),
-        (&["session", "model", "script", "out"].as_slice(), 1),
+    desk_with(alloc, &files, 7, fails)
+}
+
+/// A run whose call of this number fails: whether that call prints. Then the status is 5, and the file that was written is this one.
+fn fails_printing(
+    rt: &impl Abort,
+    alloc: Global,
+    line: &str,
+    call: u64,
+    file: Option<&[u8]>,
+) -> Result<bool, AllocError> {
+    let mut desk = full_desk(alloc, &[call])?;
+    let status = status_of(alloc, line, &mut desk)?;
+    if desk.print_faults() == 0 {
+        return Ok(false);
+    }
+    assert_eq!(rt; status, 5, "{line}, call {call}");
+    assert_eq!(rt; desk.file("out"), file, "{line}, call {call}");
+    assert_eq!(rt; counts(&desk), [0, 1, 0, 1], "{line}, call {call}");
+    Ok(true)
+}
+
+/// Each command that writes a file, with pieces of seven bytes, while each call in turn fails. Where that call prints, the file is that of the run
+/// in which none fails. In each run all is done before the hundredth call.
+#[test]
+fn keeps_the_file_where_printing_fails(rt: HostRuntime) -> Result<(), Fail> {
+    let alloc = rt.alloc();
+    for (line, status) in &[
+        ("prove model strategy out", 0),
+        ("convert term out", 1),
+        ("link model term term out", 1),
+        ("trim model term out", 1),
+        ("session model script out", 1),
     ] {
-        let mut whole = desk_with(alloc, &files, 7, &[])?;
-        assert_eq!(rt; status_of(alloc, words, &mut whole)?, status);
+        let mut whole = full_desk(alloc, &[])?;
+        assert_eq!(rt; status_of(alloc, line, &mut whole)?, *status);
         assert!(rt; whole.file("out") != Some(b"old".as_slice()));
         let mut failed = 0usize;
         for call in 1..100 {
-            let mut desk = desk_with(alloc, &files, 7, &[call])?;
-            let status = status_of(alloc, words, &mut desk)?;
-            if desk.print_faults() > 0 {
+            if fails_printing(&rt, alloc, line, call, whole.file("out"))? {
                 failed = failed.saturating_add(1);
-                assert_eq!(rt; status, 5, "call {call}");
-                assert_eq!(rt; desk.file("out"), whole.file("out"), "call {call}");
-                assert_eq!(rt; desk.write_faults(), 1, "call {call}");
-                assert_eq!(rt; desk.file_faults(), 0, "call {call}");
             }
         }
         assert_eq!(rt; failed, whole.printed().len().div_ceil(7));

@@ -43,8 +43,7 @@ fn links_as_many_leaves_as_may_be(rt: HostRuntime) -> Result<(), Fail> {
             ("lemma", lemma.as_slice()),
         ];
         let mut desk = desk_with(alloc, &files, 65_536, &[])?;
-        let words = ["link", "model", "term", "lemma", "out"];
-        let found = status_of(alloc, &words, &mut desk)?;
+        let found = status_of(alloc, "link model term lemma out", &mut desk)?;
         assert_eq!(rt; found, status);
         assert!(rt; desk.printed().starts_with(printed.as_bytes()));
         assert_eq!(rt; desk.file("out").is_some(), written);

@@ -6,10 +6,14 @@ use super::*;
 const DOUBLED: &str =
     "f(f(f(f(f(f(f(f(f(f(f(f(f(f(f(f(f(f(f(f(f(f(f(f(f(f(f(f(f(f(f(f(f(f(f(f(f(f(f(f(x))))))))))))))))))))))))))))))))))))))))";
 
-/// A desk with these texts as the files `first` and `second`.
-fn desk_with(alloc: Global, first: &[u8], second: &str) -> Result<MemoryDesk, AllocError> {
+/// A desk with these three texts, one behind another, as the file `first`, and this one as `second`.
+fn desk_with(alloc: Global, first: &[&str; 3], second: &str) -> Result<MemoryDesk, AllocError> {
+    let mut text = Vec::new(alloc);
+    for part in first {
+        text.extend_from_slice(part.as_bytes())?;
+    }
     let mut files = Vec::new(alloc);
-    files.push((String::from_str(alloc, "first")?, first.to_vec(alloc)?))?;
+    files.push((String::from_str(alloc, "first")?, text))?;
     files.push((
         String::from_str(alloc, "second")?,
         second.as_bytes().to_vec(alloc)?,
@@ -51,16 +55,16 @@ fn is_kept(desk: &MemoryDesk, status: u8, wanted: u8, printed: &str) -> bool {
 #[test]
 fn answers_whole_or_nothing(rt: HostRuntime) -> Result<(), Fail> {
     let alloc = rt.alloc();
-    for (words, first, second, status, printed) in [
+    for (line, first, second, status, printed) in &[
         (
-            &["prove", "first", "second", "term"].as_slice(),
+            "prove first second term",
             ["x>=0 -> [x:=x+1;]x>=1", "", ""],
             "implyR(1); useAt(assignb,1); leaf",
             0,
             "closed\nconclusion ==> x>=0 -> [x:=x+1;]x>=1\ngoals 0\nleaves 1\nleaf 1 x>=0 ==> x+1>=1\nlines 15\n",
         ),
         (
-            &["prove", "first", "second", "term"].as_slice(),
+            "prove first second term",
             [
                 "v>=0 & A>0 -> [{{a:=A;++a:=0;}{x'=v,v'=a&v>=0}}*@invariant(v>=0)]v>=0",
                 "",
@@ -71,36 +75,32 @@ fn answers_whole_or_nothing(rt: HostRuntime) -> Result<(), Fail> {
             "closed\nconclusion ==> v>=0&A>0 -> [{{a:=A;++a:=0;}{x'=v,v'=a&v>=0}}*]v>=0\ngoals 0\nleaves 2\nleaf 1 v>=0&A>0 ==> v>=0\nleaf 2 v>=0 ==> v>=0\nlines 104\n",
         ),
         (
-            &["subst", "first", "second"].as_slice(),
+            "subst first second",
             ["", DOUBLED, ">=0"],
             "f(._0)~>._0+._0",
             2,
             "refused: result-too-big\n",
         ),
         (
-            &["subst", "first", "second"].as_slice(),
+            "subst first second",
             ["g(", DOUBLED, ")>=0"],
             "f(._0)~>._0+._0, g(._0)~>1",
             0,
             "1>=0\n",
         ),
         (
-            &["subst", "first", "second"].as_slice(),
+            "subst first second",
             ["p(", DOUBLED, ")"],
             "f(._0)~>._0+._0, p(._0)~>\\exists z z>._0",
             2,
             "refused: result-too-big\n",
         ),
     ] {
-        let mut text = Vec::new(alloc);
-        for part in first {
-            text.extend_from_slice(part.as_bytes())?;
-        }
-        let mut desk = desk_with(alloc, &text, second)?;
-        let ended = status_of(alloc, words, &mut desk)?;
-        assert!(rt; is_kept(&desk, ended, status, printed), "{second}");
+        let mut desk = desk_with(alloc, first, second)?;
+        let ended = status_of(alloc, line, &mut desk)?;
+        assert!(rt; is_kept(&desk, ended, *status, printed), "{second}");
         // A file is written whole before anything is printed.
-        let is_written = (ended == status || desk.print_faults() > 0) && words.len() == 4;
+        let is_written = (ended == *status || desk.print_faults() > 0) && line.starts_with("prove");
         assert!(rt;
             desk.file_faults() > 0 || has_term(&desk, is_written),
             "{second}"
